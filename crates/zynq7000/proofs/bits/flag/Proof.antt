@@ -1,0 +1,15 @@
+-- `zynq7000::bits::flag` meets its contract: a flag's value is 1 or 0, and the weight is taken so often. Assumes nothing.
+use native.Mathlib.Nat.{one-mul, zero-mul}
+use mathlib.Core.Path.{sym}
+use borrow.Author.Needs.{needs}
+use Rattle.zynq7000.proofs.bits.flag.Statement.{statement}
+use Rattle.zynq7000.proofs.bits.flag.Tie as tie
+
+returns : tie.Need-returns
+returns c = simp (c .if1 .taken, one-mul) (search needs)
+
+returns-2 : tie.Need-returns-2
+returns-2 c = simp (c .if1 .left, zero-mul) (search needs)
+
+pub flag-spec : {M : Type 1} → statement M
+flag-spec = tie.close (tie.spec returns returns-2)

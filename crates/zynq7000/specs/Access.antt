@@ -1,0 +1,34 @@
+-- An access in a log: document 01, "Log and printer". "An access is two 32-bit words: offset (plus 100 hex for a read), then value."
+use Prim.Native.Nat.{ℕ, _+_, _-_, _%_}
+use mathlib.Core.Bool.{Bool, true, false, cond}
+use mathlib.Core.List.{List, [], _∷_}
+use lib.Dec.{eqb, ltb}
+use Rattle.zynq7000.specs.declared.qspi.Access.{Access}
+use Rattle.zynq7000.specs.declared.qspi.Access.the-variants.{Read, Write}
+use Rattle.zynq7000.specs.declared.qspi.Record.{Record}
+use Rattle.zynq7000.specs.declared.qspi.Record.the-variants as record-of
+
+abbrev pub offsetIn : Access → ℕ
+offsetIn (Read o v) = o
+offsetIn (Write o v) = o
+
+abbrev pub firstWord : Access → ℕ
+firstWord (Read o v) = 0x100 + o
+firstWord (Write o v) = o
+
+abbrev pub valueWord : Access → ℕ
+valueWord (Read o v) = v
+valueWord (Write o v) = v
+
+-- the log of a list of accesses
+unfoldable pub encode : List Access → List ℕ
+encode [] = []
+encode (a ∷ l) = firstWord a ∷ valueWord a ∷ encode l
+
+-- rule 13: no access where the first word is above 1FC or not a multiple of 4
+abbrev pub recordOf : ℕ → ℕ → Record
+recordOf first v =
+    cond (ltb 0x1FC first) record-of.BadLog
+    (cond (eqb (first % 4) 0)
+    (record-of.Access (cond (ltb first 0x100) (Write first v) (Read (first - 0x100) v)))
+    record-of.BadLog)

@@ -1,0 +1,5 @@
+pub mod Bits
+pub mod Number
+pub mod Qspi
+pub mod Access
+pub mod Slcr

@@ -1,0 +1,4 @@
+// Registers of the Zynq-7000: the QSPI block and the clock control word that belongs to it.
+pub mod bits;
+pub mod qspi;
+pub mod slcr;
