@@ -4,16 +4,16 @@ use Prim.Native.Nat.{ℕ, _+_, _-_, _*_, _/_, _%_, _^_, _<_, _≤_}
 use mathlib.Core.Path.{_≡_, refl, sym, ap, _∙_}
 use mathlib.Core.Bool.{Bool, true, false}
 use native.Mathlib.Omega.{arith}
-use native.Mathlib.Nat.{add-mul, mod-lt, one-mul, zero-mul, le-trans, le-of-eq, mul-le-mul-right, div-mul-le-self}
+use native.Mathlib.Nat.{add-mul, mod-lt, mod-eq-of-lt, one-mul, zero-mul, le-trans, le-of-eq, mul-le-mul-right, div-mul-le-self}
 use lib.Arith.{digits-lt}
 use lib.Dec.{ltb}
-use lib.Pow.{pow-pos, pow-add, split, high, low, shr-shr, shr-lt, shl-exact, field, mod-mod-pow}
+use lib.Pow.{pow-pos, pow-add, pow-lt, split, high, low, shr-shr, shr-lt, field, mod-mod-pow}
 use borrow.Author.Tests.{ltb-true, ltb-false}
 use Rattle.zynq7000.specs.Bits.{bit, put, clear}
 
 -- the code's `1 << i`
-pub weight : (i : ℕ) → i < 32 → (1 * 2 ^ i) % 2 ^ 32 ≡ 2 ^ i
-weight i h = shl-exact 1 i 32 (omega arith) (omega arith) ∙ one-mul (2 ^ i)
+pub weight : (i : ℕ) → i < 32 → 2 ^ i % 2 ^ 32 ≡ 2 ^ i
+weight i h = mod-eq-of-lt (pow-lt h)
 
 -- ---- what is added and taken off, by the bit as it is
 

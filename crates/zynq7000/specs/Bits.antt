@@ -1,6 +1,6 @@
 -- Bits of a register word, numbered as UG585's register tables number them: bit 0 is the lowest.
 use Prim.Native.Nat.{ℕ, _+_, _-_, _*_, _/_, _%_, _^_}
-use mathlib.Core.Bool.{Bool}
+use mathlib.Core.Bool.{Bool, true, false}
 use lib.Dec.{eqb}
 
 -- bit i of w, 0 or 1
@@ -17,3 +17,8 @@ put i w = w + (1 - bit i w) * 2 ^ i
 -- w with bit i zero
 abbrev pub clear : ℕ → ℕ → ℕ
 clear i w = w - bit i w * 2 ^ i
+
+-- a one-bit field's value
+abbrev pub flagValue : Bool → ℕ
+flagValue true = 1
+flagValue false = 0

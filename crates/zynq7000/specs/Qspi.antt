@@ -1,24 +1,13 @@
 -- The QSPI block's registers, from UG585, appendix B, module qspi, and document 01, "Modules of the flash path", 1: offsets in hex, and
 -- each word as a table of its fields from bit 31 down.
 use Prim.Native.Nat.{ℕ, _+_, _*_, _%_, _^_}
-use mathlib.Core.Bool.{Bool, true, false}
 use mathlib.Core.List.{List, [], _∷_}
-use Rattle.zynq7000.specs.Bits.{isSet}
 use Rattle.zynq7000.specs.declared.qspi.Register.{Register}
 use Rattle.zynq7000.specs.declared.qspi.Register.the-variants as register
-use Rattle.zynq7000.specs.declared.qspi.InterfaceMode.{InterfaceMode}
-use Rattle.zynq7000.specs.declared.qspi.InterfaceMode.the-variants.{LegacySpi, FlashMemoryInterface}
-use Rattle.zynq7000.specs.declared.qspi.Endianness.{Endianness}
-use Rattle.zynq7000.specs.declared.qspi.Endianness.the-variants.{Little, Big}
 use Rattle.zynq7000.specs.declared.qspi.BaudRateDivisor.{BaudRateDivisor}
 use Rattle.zynq7000.specs.declared.qspi.BaudRateDivisor.the-variants as baud
 use Rattle.zynq7000.specs.declared.qspi.InstructionCode.{InstructionCode}
 use Rattle.zynq7000.specs.declared.qspi.InstructionCode.the-variants.{Read, FastRead, FastReadDualOutput, FastReadQuadOutput, FastReadDualIo, FastReadQuadIo}
-use Rattle.zynq7000.specs.declared.qspi.Config.{Config}
-use Rattle.zynq7000.specs.declared.qspi.SpiEnable.{SpiEnable}
-use Rattle.zynq7000.specs.declared.qspi.LoopbackMasterClockDelay.{LoopbackMasterClockDelay}
-use Rattle.zynq7000.specs.declared.qspi.LinearQspiConfig.{LinearQspiConfig}
-use Rattle.zynq7000.specs.declared.qspi.InterruptStatus.{InterruptStatus}
 
 -- Config_reg, Intr_status_REG, En_REG, TXD0, Rx_data_REG, TX_thres_REG, RX_thres_REG, LPBK_DLY_ADJ, TXD1 to TXD3, LQSPI_CFG
 abbrev pub offsetOf : Register → ℕ
@@ -35,19 +24,7 @@ offsetOf register.TxData10 = 0x84
 offsetOf register.TxData11 = 0x88
 offsetOf register.LinearQspiConfig = 0xA0
 
--- ---- values of fields
-
-abbrev pub flagValue : Bool → ℕ
-flagValue true = 1
-flagValue false = 0
-
-abbrev pub interfaceCode : InterfaceMode → ℕ
-interfaceCode LegacySpi = 0
-interfaceCode FlashMemoryInterface = 1
-
-abbrev pub endianCode : Endianness → ℕ
-endianCode Little = 0
-endianCode Big = 1
+-- ---- codes of fields
 
 -- Config_reg, BAUD_RATE_DIV: the code, and what it divides the reference clock by
 abbrev pub baudCode : BaudRateDivisor → ℕ
@@ -81,77 +58,129 @@ instructionByte FastReadQuadIo = 0xEB
 
 -- ---- words
 
--- a row of a register's table: the field's lowest bit, its width in bits, and the value it is given
+-- a field of a register: its lowest bit and its width in bits
 pub data Field : Type 0 where
-  field : ℕ → ℕ → ℕ → Field
+  field : ℕ → ℕ → Field
 
--- the word in which each field has the low bits of its value, and every bit of no field is 0
-abbrev pub assemble : List Field → ℕ
-assemble [] = 0
-assemble (field low width v ∷ fs) = v % 2 ^ width * 2 ^ low + assemble fs
+abbrev pub lowest : Field → ℕ
+lowest (field low width) = low
 
-abbrev pub configFields : Config → List Field
-configFields c =
-    field 31 1 (interfaceCode (c .«interface_mode»))
-    ∷ field 26 1 (endianCode (c .edianness))
-    ∷ field 19 1 (flagValue (c .«holdb_dr»))
-    ∷ field 16 1 (flagValue (c .«manual_start_command»))
-    ∷ field 15 1 (flagValue (c .«manual_start_enable»))
-    ∷ field 14 1 (flagValue (c .«manual_cs»))
-    ∷ field 10 1 (flagValue (c .«peripheral_chip_select»))
-    ∷ field 6 2 (c .«fifo_width»)
-    ∷ field 3 3 (baudCode (c .«baud_rate_div»))
-    ∷ field 2 1 (flagValue (c .«clock_phase»))
-    ∷ field 1 1 (flagValue (c .«clock_polarity»))
-    ∷ field 0 1 (flagValue (c .«mode_select»))
+abbrev pub lows : List Field → List ℕ
+lows [] = []
+lows (f ∷ fs) = lowest f ∷ lows fs
+
+-- the word in which each field of a table has the low bits of its value, and every bit of no field is 0
+abbrev pub assemble : List Field → List ℕ → ℕ
+assemble [] vs = 0
+assemble (f ∷ fs) [] = 0
+assemble (field low width ∷ fs) (v ∷ vs) = v % 2 ^ width * 2 ^ low + assemble fs vs
+
+-- Config_reg: Man_start_com reads as 0
+abbrev pub configTable : List Field
+configTable =
+    field 31 1
+    ∷ field 26 1
+    ∷ field 19 1
+    ∷ field 16 1
+    ∷ field 15 1
+    ∷ field 14 1
+    ∷ field 10 1
+    ∷ field 6 2
+    ∷ field 3 3
+    ∷ field 2 1
+    ∷ field 1 1
+    ∷ field 0 1
+    ∷ []
+
+pub record Config : Type 0 where
+  pub interface-mode : ℕ
+  pub edianness : ℕ
+  pub holdb-dr : ℕ
+  pub manual-start-command : ℕ
+  pub manual-start-enable : ℕ
+  pub manual-cs : ℕ
+  pub peripheral-chip-select : ℕ
+  pub fifo-width : ℕ
+  pub baud-rate-div : ℕ
+  pub clock-phase : ℕ
+  pub clock-polarity : ℕ
+  pub mode-select : ℕ
+
+abbrev pub configValues : Config → List ℕ
+configValues c =
+    c .interface-mode
+    ∷ c .edianness
+    ∷ c .holdb-dr
+    ∷ c .manual-start-command
+    ∷ c .manual-start-enable
+    ∷ c .manual-cs
+    ∷ c .peripheral-chip-select
+    ∷ c .fifo-width
+    ∷ c .baud-rate-div
+    ∷ c .clock-phase
+    ∷ c .clock-polarity
+    ∷ c .mode-select
     ∷ []
 
 abbrev pub configWord : Config → ℕ
-configWord c = assemble (configFields c)
+configWord c = assemble configTable (configValues c)
+
+-- Intr_status_REG: TX underflow, RX full, RX above threshold, TX full, TX below threshold, RX overrun
+abbrev pub interruptStatusTable : List Field
+interruptStatusTable = field 6 1 ∷ field 5 1 ∷ field 4 1 ∷ field 3 1 ∷ field 2 1 ∷ field 0 1 ∷ []
+
+-- 01 calls it bit 4 of a status read: an RX word waits
+abbrev pub rxAboveThreshold : ℕ
+rxAboveThreshold = 4
 
 -- En_REG
-abbrev pub spiEnableFields : SpiEnable → List Field
-spiEnableFields e = field 0 1 (flagValue (e .enable)) ∷ []
+abbrev pub spiEnableTable : List Field
+spiEnableTable = field 0 1 ∷ []
 
-abbrev pub spiEnableWord : SpiEnable → ℕ
-spiEnableWord e = assemble (spiEnableFields e)
+-- LPBK_DLY_ADJ: use loopback, delay 1, delay 0
+abbrev pub loopbackTable : List Field
+loopbackTable = field 5 1 ∷ field 3 2 ∷ field 0 3 ∷ []
 
--- LPBK_DLY_ADJ
-abbrev pub loopbackFields : LoopbackMasterClockDelay → List Field
-loopbackFields d =
-    field 5 1 (flagValue (d .«use_loopback»))
-    ∷ field 3 2 (d .«delay_1»)
-    ∷ field 0 3 (d .«delay_0»)
-    ∷ []
-
-abbrev pub loopbackWord : LoopbackMasterClockDelay → ℕ
-loopbackWord d = assemble (loopbackFields d)
+abbrev pub loopbackWord : ℕ → ℕ → ℕ → ℕ
+loopbackWord on delay1 delay0 = assemble loopbackTable (on ∷ delay1 ∷ delay0 ∷ [])
 
 -- LQSPI_CFG
-abbrev pub linearFields : LinearQspiConfig → List Field
-linearFields l =
-    field 31 1 (flagValue (l .«enable_linear_mode»))
-    ∷ field 30 1 (flagValue (l .«both_memories»))
-    ∷ field 29 1 (flagValue (l .«separate_memory_bus»))
-    ∷ field 28 1 (flagValue (l .«upper_memory_page»))
-    ∷ field 25 1 (flagValue (l .«mode_enable»))
-    ∷ field 24 1 (flagValue (l .«mode_on»))
-    ∷ field 16 8 (l .«mode_bits»)
-    ∷ field 8 3 (l .«num_dummy_bytes»)
-    ∷ field 0 8 (instructionByte (l .«instruction_code»))
+abbrev pub linearTable : List Field
+linearTable =
+    field 31 1
+    ∷ field 30 1
+    ∷ field 29 1
+    ∷ field 28 1
+    ∷ field 25 1
+    ∷ field 24 1
+    ∷ field 16 8
+    ∷ field 8 3
+    ∷ field 0 8
     ∷ []
 
-abbrev pub linearWord : LinearQspiConfig → ℕ
-linearWord l = assemble (linearFields l)
+pub record Linear : Type 0 where
+  pub enable-linear-mode : ℕ
+  pub both-memories : ℕ
+  pub separate-memory-bus : ℕ
+  pub upper-memory-page : ℕ
+  pub mode-enable : ℕ
+  pub mode-on : ℕ
+  pub mode-bits : ℕ
+  pub num-dummy-bytes : ℕ
+  pub instruction-code : ℕ
 
--- Intr_status_REG
-abbrev pub interruptStatusOf : ℕ → InterruptStatus
-interruptStatusOf w =
-    record {
-      «tx_underflow» = isSet 6 w;
-      «rx_full» = isSet 5 w;
-      «rx_above_threshold» = isSet 4 w;
-      «tx_full» = isSet 3 w;
-      «tx_below_threshold» = isSet 2 w;
-      «rx_overrun» = isSet 0 w;
-    }
+abbrev pub linearValues : Linear → List ℕ
+linearValues l =
+    l .enable-linear-mode
+    ∷ l .both-memories
+    ∷ l .separate-memory-bus
+    ∷ l .upper-memory-page
+    ∷ l .mode-enable
+    ∷ l .mode-on
+    ∷ l .mode-bits
+    ∷ l .num-dummy-bytes
+    ∷ l .instruction-code
+    ∷ []
+
+abbrev pub linearWord : Linear → ℕ
+linearWord l = assemble linearTable (linearValues l)

@@ -1,9 +1,8 @@
 // One bit of a register word, by its number: bit 0 is the lowest. Crates above pass a number below
 // 32; `proofs/BitLaws.antt` shows that setting and clearing leave every other bit as it was.
 ghost use mathlib.Core.Path.{_≡_};
-ghost use Prim.Native.Nat.{_*_, _%_, _≤_, _<_};
+ghost use Prim.Native.Nat.{_*_, _^_, _≤_, _<_};
 ghost use Rattle.zynq7000.specs.Bits as spec;
-ghost use Rattle.zynq7000.specs.Qspi.{flagValue};
 
 // Whether the bit is set.
 pub fn is_set(word: u32, at: u32) -> bool
@@ -37,9 +36,10 @@ pub fn clear(word: u32, at: u32) -> u32
     }
 }
 
-// A one-bit field's part of a word, by the weight of its bit.
-pub fn flag(on: bool, weight: u32) -> u32
-    ensures part { λ r. ⌜ (r ≡ flagValue on % 2 * weight) × (r ≤ weight) ⌝ }
+// A one-bit field's part of a word.
+pub fn flag(on: bool, at: u32) -> u32
+    requires { ⌜ at < 32 ⌝ }
+    ensures part { λ r. ⌜ (r ≡ spec.flagValue on * 2 ^ at) × (r ≤ 2 ^ at) ⌝ }
 {
-    if on { weight } else { 0 }
+    if on { 1 << at } else { 0 }
 }

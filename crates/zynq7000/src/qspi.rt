@@ -2,8 +2,9 @@
 // The names are those of the Rust module `zynq7000::qspi`; the positions are UG585's, appendix B.
 ghost use mathlib.Core.Path.{_≡_};
 ghost use Prim.Native.Nat.{_<_};
-ghost use Rattle.zynq7000.specs.Qspi.{flagValue, offsetOf, divisorOf, baudCode, instructionByte, interfaceCode, endianCode};
-ghost use Rattle.zynq7000.specs.Qspi.{configWord, spiEnableWord, loopbackWord, linearWord, interruptStatusOf};
+ghost use Rattle.zynq7000.specs.Bits.{isSet};
+ghost use Rattle.zynq7000.specs.Qspi.{offsetOf, divisorOf, baudCode, instructionByte, lows};
+ghost use Rattle.zynq7000.specs.Qspi.{configTable, interruptStatusTable, spiEnableTable, loopbackTable, linearTable, rxAboveThreshold};
 ghost use Rattle.zynq7000.specs.Access.{firstWord, valueWord, recordOf};
 use crate::bits;
 
@@ -72,18 +73,6 @@ impl Register {
             Register::LinearQspiConfig => LINEAR_QSPI_CONFIG,
         }
     }
-}
-
-// Selects between legacy SPI and the QSPI flash memory interface.
-pub enum InterfaceMode {
-    LegacySpi,
-    FlashMemoryInterface,
-}
-
-// Byte order used for data transfers.
-pub enum Endianness {
-    Little,
-    Big,
 }
 
 // Baud rate divisor register values.
@@ -158,182 +147,167 @@ impl InstructionCode {
     }
 }
 
-fn is_flash_memory(mode: InterfaceMode) -> bool
-    ensures bit { λ r. ⌜ flagValue r ≡ interfaceCode mode ⌝ }
-{
-    match mode {
-        InterfaceMode::LegacySpi => false,
-        InterfaceMode::FlashMemoryInterface => true,
-    }
-}
-
-fn is_big(order: Endianness) -> bool
-    ensures bit { λ r. ⌜ flagValue r ≡ endianCode order ⌝ }
-{
-    match order {
-        Endianness::Little => false,
-        Endianness::Big => true,
-    }
-}
-
-// Configuration register, offset 00.
-pub struct Config {
-    // Selects between legacy SPI and the QSPI flash memory interface.
-    pub interface_mode: InterfaceMode,
-    // Byte order of the transmitted and received data.
-    pub edianness: Endianness,
-    // Drives the HOLD_B/WP_B pin high while in the reset state.
-    pub holdb_dr: bool,
-    // Triggers a manual data transfer when manual start mode is enabled.
-    pub manual_start_command: bool,
-    // Requires a manual start command to begin a data transfer.
-    pub manual_start_enable: bool,
-    // Enables manual chip select control instead of automatic assertion.
-    pub manual_cs: bool,
-    // Directly drives the chip select line when it is driven manually.
-    pub peripheral_chip_select: bool,
-    // The only valid value is 3 (32 bits).
-    pub fifo_width: u8,
-    // Reference clock divisor used to derive the SPI clock.
-    pub baud_rate_div: BaudRateDivisor,
-    // On: the SPI clock is inactive outside the word.
-    pub clock_phase: bool,
-    // On: the SPI clock is quiescent high.
-    pub clock_polarity: bool,
-    // Must be on before using QSPI.
-    pub mode_select: bool,
-}
+// Configuration register, offset 00: the lowest bit of each field.
+pub struct Config(pub u32);
 
 impl Config {
-    // The register's word: its fields from bit 31 down. A number wider than its field loses its high bits.
-    pub fn raw_value(self) -> u32
-        ensures word { λ r. ⌜ r ≡ configWord self ⌝ }
+    // 1: the QSPI flash memory interface; 0: legacy SPI.
+    pub const INTERFACE_MODE: u32 = 31;
+    // 0: least significant byte first.
+    pub const EDIANNESS: u32 = 26;
+    // Drives the HOLD_B/WP_B pin high while in the reset state.
+    pub const HOLDB_DR: u32 = 19;
+    // Triggers a manual data transfer when manual start mode is enabled.
+    pub const MANUAL_START_COMMAND: u32 = 16;
+    // Requires a manual start command to begin a data transfer.
+    pub const MANUAL_START_ENABLE: u32 = 15;
+    // Enables manual chip select control instead of automatic assertion.
+    pub const MANUAL_CS: u32 = 14;
+    // Directly drives the chip select line when it is driven manually.
+    pub const PERIPHERAL_CHIP_SELECT: u32 = 10;
+    // Two bits. The only valid value is 3 (32 bits).
+    pub const FIFO_WIDTH: u32 = 6;
+    // Three bits: reference clock divisor used to derive the SPI clock.
+    pub const BAUD_RATE_DIV: u32 = 3;
+    // 1: the SPI clock is inactive outside the word.
+    pub const CLOCK_PHASE: u32 = 2;
+    // 1: the SPI clock is quiescent high.
+    pub const CLOCK_POLARITY: u32 = 1;
+    // Must be 1 before using QSPI.
+    pub const MODE_SELECT: u32 = 0;
+
+    // The lowest bits of the fields, from bit 31 down.
+    pub fn field_bits() -> [u32; 12]
+        ensures table { λ r. ⌜ r ≡ lows configTable ⌝ }
     {
-        let interface_mode = self.interface_mode;
-        let edianness = self.edianness;
-        let baud_rate_div = self.baud_rate_div;
-        let fifo_width = self.fifo_width;
-        bits::flag(is_flash_memory(interface_mode), 1 << 31)
-            + bits::flag(is_big(edianness), 1 << 26)
-            + bits::flag(self.holdb_dr, 1 << 19)
-            + bits::flag(self.manual_start_command, 1 << 16)
-            + bits::flag(self.manual_start_enable, 1 << 15)
-            + bits::flag(self.manual_cs, 1 << 14)
-            + bits::flag(self.peripheral_chip_select, 1 << 10)
-            + (fifo_width as u32 % 4) * (1 << 6)
-            + baud_rate_div.raw_value() * (1 << 3)
-            + bits::flag(self.clock_phase, 1 << 2)
-            + bits::flag(self.clock_polarity, 1 << 1)
-            + bits::flag(self.mode_select, 1 << 0)
+        [
+            Self::INTERFACE_MODE,
+            Self::EDIANNESS,
+            Self::HOLDB_DR,
+            Self::MANUAL_START_COMMAND,
+            Self::MANUAL_START_ENABLE,
+            Self::MANUAL_CS,
+            Self::PERIPHERAL_CHIP_SELECT,
+            Self::FIFO_WIDTH,
+            Self::BAUD_RATE_DIV,
+            Self::CLOCK_PHASE,
+            Self::CLOCK_POLARITY,
+            Self::MODE_SELECT,
+        ]
+    }
+}
+
+// Interrupt status register, offset 04: the bits.
+pub struct InterruptStatus(pub u32);
+
+impl InterruptStatus {
+    pub const TX_UNDERFLOW: u32 = 6;
+    // RX FIFO is full.
+    pub const RX_FULL: u32 = 5;
+    // RX FIFO level is above the threshold: with a threshold of 1, a word waits.
+    pub const RX_ABOVE_THRESHOLD: u32 = 4;
+    // TX FIFO is full.
+    pub const TX_FULL: u32 = 3;
+    // TX FIFO level is below the threshold.
+    pub const TX_BELOW_THRESHOLD: u32 = 2;
+
+    pub const RX_OVERRUN: u32 = 0;
+
+    // The lowest bits of the fields, from bit 31 down.
+    pub fn field_bits() -> [u32; 6]
+        ensures table { λ r. ⌜ r ≡ lows interruptStatusTable ⌝ }
+    {
+        [
+            Self::TX_UNDERFLOW,
+            Self::RX_FULL,
+            Self::RX_ABOVE_THRESHOLD,
+            Self::TX_FULL,
+            Self::TX_BELOW_THRESHOLD,
+            Self::RX_OVERRUN,
+        ]
+    }
+
+    // Whether an RX word waits.
+    pub fn rx_above_threshold(self) -> bool
+        ensures bit { λ r. ⌜ r ≡ isSet rxAboveThreshold (self .0) ⌝ }
+    {
+        bits::is_set(self.0, InterruptStatus::RX_ABOVE_THRESHOLD)
     }
 }
 
 // SPI enable register, offset 14.
-pub struct SpiEnable {
-    // Enables the SPI/QSPI controller.
-    pub enable: bool,
-}
+pub struct SpiEnable(pub u32);
 
 impl SpiEnable {
-    pub fn raw_value(self) -> u32
-        ensures word { λ r. ⌜ r ≡ spiEnableWord self ⌝ }
+    // Enables the SPI/QSPI controller.
+    pub const ENABLE: u32 = 0;
+
+    // The lowest bits of the fields, from bit 31 down.
+    pub fn field_bits() -> [u32; 1]
+        ensures table { λ r. ⌜ r ≡ lows spiEnableTable ⌝ }
     {
-        bits::flag(self.enable, 1 << 0)
+        [Self::ENABLE]
     }
 }
 
-// Loopback master clock delay register, offset 38.
-pub struct LoopbackMasterClockDelay {
-    // Use the internal loopback clock for read data capturing when the baud rate divisor is 2.
-    pub use_loopback: bool,
-    // Upper delay element for the loopback master clock.
-    pub delay_1: u8,
-    // Lower delay element for the loopback master clock.
-    pub delay_0: u8,
-}
+// Loopback master clock delay register, offset 38: the lowest bit of each field.
+pub struct LoopbackMasterClockDelay(pub u32);
 
 impl LoopbackMasterClockDelay {
-    // The register's word. A number wider than its field loses its high bits.
-    pub fn raw_value(self) -> u32
-        ensures word { λ r. ⌜ r ≡ loopbackWord self ⌝ }
+    // Use the internal loopback clock for read data capturing when the baud rate divisor is 2.
+    pub const USE_LOOPBACK: u32 = 5;
+    // Two bits: upper delay element for the loopback master clock.
+    pub const DELAY_1: u32 = 3;
+    // Three bits: lower delay element for the loopback master clock.
+    pub const DELAY_0: u32 = 0;
+
+    // The lowest bits of the fields, from bit 31 down.
+    pub fn field_bits() -> [u32; 3]
+        ensures table { λ r. ⌜ r ≡ lows loopbackTable ⌝ }
     {
-        let delay_1 = self.delay_1;
-        let delay_0 = self.delay_0;
-        bits::flag(self.use_loopback, 1 << 5)
-            + (delay_1 as u32 % 4) * (1 << 3)
-            + (delay_0 as u32 % 8) * (1 << 0)
+        [Self::USE_LOOPBACK, Self::DELAY_1, Self::DELAY_0]
     }
 }
 
-// Linear QSPI configuration register, offset A0, controlling memory-mapped flash reads.
-pub struct LinearQspiConfig {
-    // Enables the linear addressing mode, exposing the flash as memory-mapped space.
-    pub enable_linear_mode: bool,
-    // Both attached memories are used together to widen the data bus.
-    pub both_memories: bool,
-    // Only has a meaning if both memories are used.
-    pub separate_memory_bus: bool,
-    // Upper memory page. Only has a meaning if both memories are used over one bus, without linear mode.
-    pub upper_memory_page: bool,
-    // Enables sending mode bits after the address in the read command.
-    pub mode_enable: bool,
-    // Selects whether the mode bits say that the next access needs no instruction byte.
-    pub mode_on: bool,
-    // Mode bits sent after the address when mode bit output is enabled.
-    pub mode_bits: u8,
-    // Number of dummy bytes inserted between the address and the returned data.
-    pub num_dummy_bytes: u8,
-    // Read instruction sent to the flash device for linear reads.
-    pub instruction_code: InstructionCode,
-}
+// Linear QSPI configuration register, offset A0, controlling memory-mapped flash reads: the lowest
+// bit of each field.
+pub struct LinearQspiConfig(pub u32);
 
 impl LinearQspiConfig {
-    // The register's word. A number wider than its field loses its high bits.
-    pub fn raw_value(self) -> u32
-        ensures word { λ r. ⌜ r ≡ linearWord self ⌝ }
-    {
-        let mode_bits = self.mode_bits;
-        let num_dummy_bytes = self.num_dummy_bytes;
-        let instruction_code = self.instruction_code;
-        bits::flag(self.enable_linear_mode, 1 << 31)
-            + bits::flag(self.both_memories, 1 << 30)
-            + bits::flag(self.separate_memory_bus, 1 << 29)
-            + bits::flag(self.upper_memory_page, 1 << 28)
-            + bits::flag(self.mode_enable, 1 << 25)
-            + bits::flag(self.mode_on, 1 << 24)
-            + (mode_bits as u32) * (1 << 16)
-            + (num_dummy_bytes as u32 % 8) * (1 << 8)
-            + instruction_code.raw_value()
-    }
-}
+    // Enables the linear addressing mode, exposing the flash as memory-mapped space.
+    pub const ENABLE_LINEAR_MODE: u32 = 31;
+    // Both attached memories are used together to widen the data bus.
+    pub const BOTH_MEMORIES: u32 = 30;
+    // Only has a meaning if both memories are used.
+    pub const SEPARATE_MEMORY_BUS: u32 = 29;
+    // Only has a meaning if both memories are used over one bus, without linear mode.
+    pub const UPPER_MEMORY_PAGE: u32 = 28;
+    // Enables sending mode bits after the address in the read command.
+    pub const MODE_ENABLE: u32 = 25;
+    // Selects whether the mode bits say that the next access needs no instruction byte.
+    pub const MODE_ON: u32 = 24;
+    // Eight bits, sent after the address when mode bit output is enabled.
+    pub const MODE_BITS: u32 = 16;
+    // Three bits: dummy bytes between the address and the returned data.
+    pub const NUM_DUMMY_BYTES: u32 = 8;
+    // Eight bits: read instruction sent to the flash device for linear reads.
+    pub const INSTRUCTION_CODE: u32 = 0;
 
-// Interrupt status register, offset 04.
-pub struct InterruptStatus {
-    pub tx_underflow: bool,
-    // RX FIFO is full.
-    pub rx_full: bool,
-    // RX FIFO level is above the threshold: with a threshold of 1, a word waits.
-    pub rx_above_threshold: bool,
-    // TX FIFO is full.
-    pub tx_full: bool,
-    // TX FIFO level is below the threshold.
-    pub tx_below_threshold: bool,
-    pub rx_overrun: bool,
-}
-
-impl InterruptStatus {
-    // The fields of a word that was read.
-    pub fn new_with_raw_value(word: u32) -> InterruptStatus
-        ensures fields { λ r. ⌜ r ≡ interruptStatusOf word ⌝ }
+    // The lowest bits of the fields, from bit 31 down.
+    pub fn field_bits() -> [u32; 9]
+        ensures table { λ r. ⌜ r ≡ lows linearTable ⌝ }
     {
-        InterruptStatus {
-            tx_underflow: bits::is_set(word, 6),
-            rx_full: bits::is_set(word, 5),
-            rx_above_threshold: bits::is_set(word, 4),
-            tx_full: bits::is_set(word, 3),
-            tx_below_threshold: bits::is_set(word, 2),
-            rx_overrun: bits::is_set(word, 0),
-        }
+        [
+            Self::ENABLE_LINEAR_MODE,
+            Self::BOTH_MEMORIES,
+            Self::SEPARATE_MEMORY_BUS,
+            Self::UPPER_MEMORY_PAGE,
+            Self::MODE_ENABLE,
+            Self::MODE_ON,
+            Self::MODE_BITS,
+            Self::NUM_DUMMY_BYTES,
+            Self::INSTRUCTION_CODE,
+        ]
     }
 }
 

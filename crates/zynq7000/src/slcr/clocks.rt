@@ -2,8 +2,8 @@
 // never written here: SLCR access is outside the port.
 ghost use mathlib.Core.Path.{_≡_};
 ghost use Prim.Native.Nat.{_<_};
-ghost use Rattle.zynq7000.specs.Slcr.{sourceCode, clockControlWord};
-use crate::bits;
+ghost use Rattle.zynq7000.specs.Qspi.{lows};
+ghost use Rattle.zynq7000.specs.Slcr.{sourceCode, clockControlTable};
 
 // Clock source selection for IO peripheral clocks.
 pub enum SrcSelIo {
@@ -31,25 +31,21 @@ impl SrcSelIo {
     }
 }
 
-// Clock control register for a peripheral with a single clock output.
-pub struct SingleCommonPeriphIoClockControl {
-    // Clock divisor.
-    pub divisor: u8,
-    // Clock source selection.
-    pub srcsel: SrcSelIo,
-    // Clock enable.
-    pub clk_act: bool,
-}
+// Clock control register for a peripheral with a single clock output: the lowest bit of each field.
+pub struct SingleCommonPeriphIoClockControl(pub u32);
 
 impl SingleCommonPeriphIoClockControl {
-    // The register's word. A divisor wider than its field loses its high bits.
-    pub fn raw_value(self) -> u32
-        ensures word { λ r. ⌜ r ≡ clockControlWord self ⌝ }
+    // Six bits: clock divisor.
+    pub const DIVISOR: u32 = 8;
+    // Two bits: clock source selection.
+    pub const SRCSEL: u32 = 4;
+    // Clock enable.
+    pub const CLK_ACT: u32 = 0;
+
+    // The lowest bits of the fields, from bit 31 down.
+    pub fn field_bits() -> [u32; 3]
+        ensures table { λ r. ⌜ r ≡ lows clockControlTable ⌝ }
     {
-        let divisor = self.divisor;
-        let srcsel = self.srcsel;
-        (divisor as u32 % 64) * (1 << 8)
-            + srcsel.raw_value() * (1 << 4)
-            + bits::flag(self.clk_act, 1 << 0)
+        [Self::DIVISOR, Self::SRCSEL, Self::CLK_ACT]
     }
 }

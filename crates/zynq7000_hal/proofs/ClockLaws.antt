@@ -1,0 +1,139 @@
+-- Rounding up, the rungs of the ladder, and what the calculations answer test by test. Assumes nothing.
+use Prim.Native.Nat.{ℕ, _+_, _-_, _*_, _/_, _%_, _<_, _≤_}
+use mathlib.Core.Path.{_≡_, refl, sym, ap, _∙_}
+use native.Mathlib.Omega.{arith}
+use native.Mathlib.Nat.{add-mul, one-mul, div-add-mod', mod-lt, div-mul-le-self, lt-div-mul-add, le-div-iff-mul-le, le-mul-of-pos-right}
+use lib.Arith.{digits-div}
+use mathlib.Core.List.{[], _∷_}
+use borrow.Author.Tests.{le-leb, lt-leb, le-ltb, lt-ltb, eq-eqb, ne-eqb}
+use Rattle.zynq7000.specs.Number.{accepted, refused}
+use Rattle.zynq7000.specs.Number.{RefDivOutOfRange, RefClockSmallerThanCpu1xClock, ZeroClock, TargetTooFast}
+use Rattle.zynq7000.specs.Slcr.{sourceCode}
+use Rattle.zynq7000.specs.declared.slcr.clocks.SrcSelIo.{SrcSelIo}
+use Rattle.zynq7000_hal.specs.declared.clocks.Clocks.{Clocks}
+use Rattle.zynq7000_hal.specs.Clocks.{roundedUp, ladder, sourceClock, dividedClock, quotient, calculateAnswer, loopbackAnswer}
+
+-- ---- rounding up: the quotient, and one more where something is left
+
+pub round-exact : (n d : ℕ) → 0 < d → n % d ≡ 0 → roundedUp n d ≡ n / d
+round-exact n d h e =
+    let s : n + (d - 1) ≡ n / d * d + (d - 1) = omega (arith, div-add-mod' n d) in
+    ap (λ (x : ℕ). x / d) s ∙ digits-div (n / d) (omega arith)
+
+pub round-up : (n d : ℕ) → 0 < d → (n % d ≡ 0 → ⊥) → roundedUp n d ≡ n / d + 1
+round-up n d h e =
+    let l : n % d < d = mod-lt n h in
+    let s : n + (d - 1) ≡ (n / d + 1) * d + (n % d - 1) =
+    omega (arith, div-add-mod' n d, add-mul (n / d) 1 d, one-mul d, e) in
+    ap (λ (x : ℕ). x / d) s ∙ digits-div (n / d + 1) (omega arith)
+
+-- the least number of times d that reaches n
+pub round-reaches : (n d : ℕ) → 0 < d → n ≤ roundedUp n d * d
+round-reaches n d h = omega (arith, lt-div-mul-add {a = n + (d - 1)} h)
+
+pub round-least : (n d : ℕ) → 0 < d → roundedUp n d * d < n + d
+round-least n d h = omega (arith, div-mul-le-self (n + (d - 1)) d)
+
+pub round-positive : (n d : ℕ) → 0 < d → 0 < n → 0 < roundedUp n d
+round-positive n d h p = le-div-iff-mul-le h .1 (omega (arith, one-mul d))
+
+-- where something is left the quotient has room for one more
+pub round-room : (n d : ℕ) → 0 < d → (n % d ≡ 0 → ⊥) → n / d < n
+round-room n d h e = omega (arith, div-add-mod' n d, e, le-mul-of-pos-right (n / d) h)
+
+-- ---- the rungs, as 01 lists them
+
+pub rung-2 : (q : ℕ) → q ≤ 2 → ladder q ≡ 2
+rung-2 q h = simp (le-leb q 2 h)
+
+pub rung-4 : (q : ℕ) → 2 < q → q ≤ 4 → ladder q ≡ 4
+rung-4 q l h = simp (lt-leb q 2 l, le-leb q 4 h)
+
+pub rung-8 : (q : ℕ) → 4 < q → q ≤ 8 → ladder q ≡ 8
+rung-8 q l h = simp (lt-leb q 2 (omega arith), lt-leb q 4 l, le-leb q 8 h)
+
+pub rung-16 : (q : ℕ) → 8 < q → q ≤ 16 → ladder q ≡ 16
+rung-16 q l h = simp (lt-leb q 2 (omega arith), lt-leb q 4 (omega arith), lt-leb q 8 l, le-leb q 16 h)
+
+pub rung-32 : (q : ℕ) → 16 < q → q ≤ 32 → ladder q ≡ 32
+rung-32 q l h = simp (lt-leb q 2 (omega arith), lt-leb q 4 (omega arith), lt-leb q 8 (omega arith), lt-leb q 16 l, le-leb q 32 h)
+
+pub hole : (q : ℕ) → 32 < q → q ≤ 64 → ladder q ≡ 256
+hole q l h =
+    simp (lt-leb q 2 (omega arith), lt-leb q 4 (omega arith), lt-leb q 8 (omega arith), lt-leb q 16 (omega arith), lt-leb q 32 l, le-leb q 64 h)
+
+-- the rungs above the hole, one too low
+pub rung-64 : (q : ℕ) → 64 < q → q ≤ 128 → ladder q ≡ 64
+rung-64 q l h =
+    simp (lt-leb q 2 (omega arith), lt-leb q 4 (omega arith), lt-leb q 8 (omega arith), lt-leb q 16 (omega arith), lt-leb q 32 (omega arith), lt-leb q 64 l, le-leb q 128 h)
+
+pub rung-128 : (q : ℕ) → 128 < q → q ≤ 256 → ladder q ≡ 128
+rung-128 q l h =
+    simp (lt-leb q 2 (omega arith), lt-leb q 4 (omega arith), lt-leb q 8 (omega arith), lt-leb q 16 (omega arith), lt-leb q 32 (omega arith), lt-leb q 64 (omega arith), lt-leb q 128 l, le-leb q 256 h)
+
+pub rung-256 : (q : ℕ) → 256 < q → ladder q ≡ 256
+rung-256 q l =
+    simp (lt-leb q 2 (omega arith), lt-leb q 4 (omega arith), lt-leb q 8 (omega arith), lt-leb q 16 (omega arith), lt-leb q 32 (omega arith), lt-leb q 64 (omega arith), lt-leb q 128 (omega arith), lt-leb q 256 l)
+
+-- ---- what the calculations answer, test by test in 01's order
+
+module _ (s : SrcSelIo) (c : Clocks) (t i : ℕ) where
+  pub reference-target-zero : t ≡ 0 → calculateAnswer s c t i ≡ refused ZeroClock
+  reference-target-zero h = simp (eq-eqb t 0 h)
+
+  pub divisor-too-large : (t ≡ 0 → ⊥) → 63 < roundedUp (sourceClock s c) t → calculateAnswer s c t i ≡ refused RefDivOutOfRange
+  divisor-too-large h l = simp (ne-eqb t 0 h, lt-ltb 63 (roundedUp (sourceClock s c) t) l)
+
+  pub reference-clock-zero : (t ≡ 0 → ⊥) → roundedUp (sourceClock s c) t ≤ 63 → sourceClock s c ≡ 0 → calculateAnswer s c t i ≡ refused ZeroClock
+  reference-clock-zero h l z = simp (ne-eqb t 0 h, le-ltb 63 (roundedUp (sourceClock s c) t) l, eq-eqb (sourceClock s c) 0 z)
+
+  pub below-cpu-clock : (t ≡ 0 → ⊥) → roundedUp (sourceClock s c) t ≤ 63 → (sourceClock s c ≡ 0 → ⊥)
+      → dividedClock (sourceClock s c) t < c .«cpu_1x_clk»
+      → calculateAnswer s c t i ≡ refused RefClockSmallerThanCpu1xClock
+  below-cpu-clock h l z b =
+      simp (
+        ne-eqb t 0 h,
+        le-ltb 63 (roundedUp (sourceClock s c) t) l,
+        ne-eqb (sourceClock s c) 0 z,
+        lt-ltb (dividedClock (sourceClock s c) t) (c .«cpu_1x_clk») b,
+      )
+
+  pub interface-target-zero : (t ≡ 0 → ⊥) → roundedUp (sourceClock s c) t ≤ 63 → (sourceClock s c ≡ 0 → ⊥)
+      → c .«cpu_1x_clk» ≤ dividedClock (sourceClock s c) t
+      → i ≡ 0
+      → calculateAnswer s c t i ≡ refused ZeroClock
+  interface-target-zero h l z b e =
+      simp (
+        ne-eqb t 0 h,
+        le-ltb 63 (roundedUp (sourceClock s c) t) l,
+        ne-eqb (sourceClock s c) 0 z,
+        le-ltb (dividedClock (sourceClock s c) t) (c .«cpu_1x_clk») b,
+        eq-eqb i 0 e,
+      )
+
+  pub calculated : (t ≡ 0 → ⊥) → roundedUp (sourceClock s c) t ≤ 63 → (sourceClock s c ≡ 0 → ⊥)
+      → c .«cpu_1x_clk» ≤ dividedClock (sourceClock s c) t
+      → (i ≡ 0 → ⊥)
+      → calculateAnswer s c t i ≡ accepted (sourceCode s ∷ roundedUp (sourceClock s c) t ∷ 0 ∷ ladder (quotient (sourceClock s c) t i) ∷ [])
+  calculated h l z b e =
+      simp (
+        ne-eqb t 0 h,
+        le-ltb 63 (roundedUp (sourceClock s c) t) l,
+        ne-eqb (sourceClock s c) 0 z,
+        le-ltb (dividedClock (sourceClock s c) t) (c .«cpu_1x_clk») b,
+        ne-eqb i 0 e,
+      )
+
+  pub too-fast : 2147483647 < t → loopbackAnswer s c t ≡ refused TargetTooFast
+  too-fast l = simp (lt-ltb 2147483647 t l)
+
+  pub loopback-target-zero : t ≡ 0 → loopbackAnswer s c t ≡ refused ZeroClock
+  loopback-target-zero h = simp (le-ltb 2147483647 t (omega arith), eq-eqb t 0 h)
+
+  pub loopback-divisor-too-large : t ≤ 2147483647 → (t ≡ 0 → ⊥) → 63 < roundedUp (sourceClock s c) (t * 2)
+      → loopbackAnswer s c t ≡ refused RefDivOutOfRange
+  loopback-divisor-too-large f h l = simp (le-ltb 2147483647 t f, ne-eqb t 0 h, lt-ltb 63 (roundedUp (sourceClock s c) (t * 2)) l)
+
+  pub loopback-calculated : t ≤ 2147483647 → (t ≡ 0 → ⊥) → roundedUp (sourceClock s c) (t * 2) ≤ 63
+      → loopbackAnswer s c t ≡ accepted (sourceCode s ∷ roundedUp (sourceClock s c) (t * 2) ∷ 1 ∷ 2 ∷ [])
+  loopback-calculated f h l = simp (le-ltb 2147483647 t f, ne-eqb t 0 h, le-ltb 63 (roundedUp (sourceClock s c) (t * 2)) l)

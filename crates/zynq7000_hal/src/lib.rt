@@ -1,0 +1,3 @@
+// The Zynq-7000 QSPI controller: clocks, linear mode presets, the words of its set-up.
+pub mod clocks;
+pub mod qspi;

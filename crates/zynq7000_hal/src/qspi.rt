@@ -1,0 +1,298 @@
+// The QSPI controller, after the Rust module `zynq7000-hal/src/qspi/mod.rs`: the clock calculation, the linear mode presets and
+// the words that `initialize` and `enable_io_mode` write.
+ghost use mathlib.Core.Path.{_≡_};
+ghost use Prim.Native.Nat.{_<_};
+ghost use Rattle.zynq7000.specs.Number.{number};
+ghost use Rattle.zynq7000.specs.Qspi.{divisorOf, configWord, linearWord};
+ghost use Rattle.zynq7000.specs.Slcr.{sourceCode, clockControlWord};
+ghost use Rattle.zynq7000_hal.specs.Clocks.{roundedUp, ladder, refusalOf, answerOf, calculateAnswer, loopbackAnswer, baudOf};
+ghost use Rattle.zynq7000_hal.specs.Presets.{presetOf, ioModeConfig};
+ghost use Rattle.zynq7000_hal.specs.Initialize.{initialConfig, writtenWords, loopbackWords, initializedAnswer, initializeAnswer};
+use crate::clocks::Clocks;
+use zynq7000::bits;
+use zynq7000::qspi::BaudRateDivisor;
+use zynq7000::qspi::Config;
+use zynq7000::qspi::InstructionCode;
+use zynq7000::qspi::LinearQspiConfig;
+use zynq7000::qspi::LoopbackMasterClockDelay;
+use zynq7000::slcr::clocks::SingleCommonPeriphIoClockControl;
+use zynq7000::slcr::clocks::SrcSelIo;
+
+mod lqspi_configs;
+
+// Why there is no clock configuration.
+pub enum ClockCalculationError {
+    // The QSPI reference clock is below the CPU 1x clock.
+    RefClockSmallerThanCpu1xClock,
+    // The reference clock divisor is out of range.
+    RefDivOutOfRange,
+    // A clock to divide by is 0.
+    ZeroClock,
+    // Twice the loopback target does not fit 32 bits.
+    TargetTooFast,
+}
+
+impl ClockCalculationError {
+    // The refusal's number.
+    pub fn number(self) -> u8
+        ensures number { λ r. ⌜ r ≡ number (refusalOf self) ⌝ }
+    {
+        match self {
+            ClockCalculationError::RefClockSmallerThanCpu1xClock => 7,
+            ClockCalculationError::RefDivOutOfRange => 6,
+            ClockCalculationError::ZeroClock => 8,
+            ClockCalculationError::TargetTooFast => 9,
+        }
+    }
+}
+
+// Baud rate configuration.
+pub enum BaudRateConfig {
+    // Loopback clock mode, which requires a baud rate divisor of 2.
+    WithLoopback,
+    // No loopback clock, with the given baud rate divisor.
+    WithoutLoopback(BaudRateDivisor),
+}
+
+impl BaudRateConfig {
+    pub fn baud_rate_divisor(self) -> BaudRateDivisor
+        ensures divisor { λ r. ⌜ r ≡ baudOf self ⌝ }
+    {
+        match self {
+            BaudRateConfig::WithLoopback => BaudRateDivisor::_2,
+            BaudRateConfig::WithoutLoopback(divisor) => divisor,
+        }
+    }
+}
+
+// QSPI clock configuration.
+pub struct ClockConfig {
+    // Reference clock source.
+    pub src_sel: SrcSelIo,
+    // Reference clock divisor, six bits.
+    pub ref_clk_div: u8,
+    // Baud rate configuration.
+    pub baud_rate_config: BaudRateConfig,
+}
+
+// What a clock calculation answers.
+pub enum ClockCalculation {
+    Config(ClockConfig),
+    Refused(ClockCalculationError),
+}
+
+// n over d, rounded up.
+fn div_ceil(n: u32, d: u32) -> u32
+    requires { ⌜ 0 < d ⌝ }
+    ensures quotient { λ r. ⌜ r ≡ roundedUp n d ⌝ }
+{
+    if n % d == 0 { n / d } else { n / d + 1 }
+}
+
+// The rung of the Rust's ladder, its hole included: docs/DIFFERENCES.md.
+fn baud_rate_div(quotient: u32) -> BaudRateDivisor
+    ensures divisor { λ r. ⌜ divisorOf r ≡ ladder quotient ⌝ }
+{
+    match quotient {
+        0..=2 => BaudRateDivisor::_2,
+        3..=4 => BaudRateDivisor::_4,
+        5..=8 => BaudRateDivisor::_8,
+        9..=16 => BaudRateDivisor::_16,
+        17..=32 => BaudRateDivisor::_32,
+        65..=128 => BaudRateDivisor::_64,
+        129..=256 => BaudRateDivisor::_128,
+        _ => BaudRateDivisor::_256,
+    }
+}
+
+impl ClockConfig {
+    // The clock divisor for an interface clock in loopback mode, where the baud rate divisor is 2.
+    pub fn calculate_with_loopback(
+        src_sel: SrcSelIo,
+        clocks: Clocks,
+        target_qspi_interface_clock: u32,
+    ) -> ClockCalculation
+        ensures answer { λ r. ⌜ answerOf r ≡ loopbackAnswer «src_sel» clocks «target_qspi_interface_clock» ⌝ }
+    {
+        if 0x7FFF_FFFF < target_qspi_interface_clock {
+            return ClockCalculation::Refused(ClockCalculationError::TargetTooFast);
+        }
+        if target_qspi_interface_clock == 0 {
+            return ClockCalculation::Refused(ClockCalculationError::ZeroClock);
+        }
+        let target_ref_clock = target_qspi_interface_clock * 2;
+        let ref_clk_div = div_ceil(clocks.ref_clk(src_sel), target_ref_clock);
+        if 63 < ref_clk_div {
+            return ClockCalculation::Refused(ClockCalculationError::RefDivOutOfRange);
+        }
+        ClockCalculation::Config(ClockConfig {
+            src_sel,
+            ref_clk_div: ref_clk_div as u8,
+            baud_rate_config: BaudRateConfig::WithLoopback,
+        })
+    }
+
+    // The clock and baud rate divisors for a reference clock and an interface clock.
+    pub fn calculate(
+        src_sel: SrcSelIo,
+        clocks: Clocks,
+        target_qspi_ref_clock: u32,
+        target_qspi_interface_clock: u32,
+    ) -> ClockCalculation
+        ensures answer { λ r. ⌜ answerOf r ≡ calculateAnswer «src_sel» clocks «target_qspi_ref_clock» «target_qspi_interface_clock» ⌝ }
+    {
+        let ref_clk = clocks.ref_clk(src_sel);
+        if target_qspi_ref_clock == 0 {
+            return ClockCalculation::Refused(ClockCalculationError::ZeroClock);
+        }
+        let ref_clk_div = div_ceil(ref_clk, target_qspi_ref_clock);
+        if 63 < ref_clk_div {
+            return ClockCalculation::Refused(ClockCalculationError::RefDivOutOfRange);
+        }
+        if ref_clk == 0 {
+            return ClockCalculation::Refused(ClockCalculationError::ZeroClock);
+        }
+        let qspi_ref_clk = ref_clk / ref_clk_div;
+        if qspi_ref_clk < clocks.cpu_1x_clk {
+            return ClockCalculation::Refused(ClockCalculationError::RefClockSmallerThanCpu1xClock);
+        }
+        if target_qspi_interface_clock == 0 {
+            return ClockCalculation::Refused(ClockCalculationError::ZeroClock);
+        }
+        let quotient = div_ceil(qspi_ref_clk, target_qspi_interface_clock);
+        ClockCalculation::Config(ClockConfig {
+            src_sel,
+            ref_clk_div: ref_clk_div as u8,
+            baud_rate_config: BaudRateConfig::WithoutLoopback(baud_rate_div(quotient)),
+        })
+    }
+}
+
+// QSPI flash vendor, which determines the linear mode configuration.
+pub enum QspiVendor {
+    // Winbond or Spansion.
+    WinbondAndSpansion,
+    Micron,
+}
+
+// Read instruction used in linear addressing mode.
+pub type OperatingMode = InstructionCode;
+
+// QSPI flash setup, used to derive the linear mode configuration.
+pub struct QspiDeviceCombination {
+    // Flash vendor.
+    pub vendor: QspiVendor,
+    // Read instruction.
+    pub operating_mode: OperatingMode,
+    // Two flash devices are used.
+    pub two_devices: bool,
+}
+
+// Linear mode configuration for common QSPI flash devices.
+pub fn linear_mode_config_for_common_devices(
+    dev_combination: QspiDeviceCombination,
+) -> LinearQspiConfig
+    ensures preset { λ r. ⌜ r .0 ≡ linearWord (presetOf «dev_combination») ⌝ }
+{
+    let vendor = dev_combination.vendor;
+    let mode = dev_combination.operating_mode;
+    let two = dev_combination.two_devices;
+    match mode {
+        InstructionCode::Read => lqspi_configs::output_read(mode, 0, two),
+        InstructionCode::FastRead => lqspi_configs::output_read(mode, 1, two),
+        InstructionCode::FastReadDualOutput => lqspi_configs::output_read(mode, 1, two),
+        InstructionCode::FastReadQuadOutput => lqspi_configs::output_read(mode, 1, two),
+        InstructionCode::FastReadDualIo => match vendor {
+            QspiVendor::WinbondAndSpansion => lqspi_configs::io_read(mode, 0, two),
+            QspiVendor::Micron => lqspi_configs::io_read(mode, 1, two),
+        },
+        InstructionCode::FastReadQuadIo => match vendor {
+            QspiVendor::WinbondAndSpansion => lqspi_configs::io_read(mode, 2, two),
+            QspiVendor::Micron => lqspi_configs::io_read(mode, 4, two),
+        },
+    }
+}
+
+// What `enable_io_mode` writes to the linear configuration register: reset values, which do not
+// matter in this mode, but for the memories.
+pub fn io_mode_config(dual_flash: bool) -> LinearQspiConfig
+    ensures config { λ r. ⌜ r .0 ≡ linearWord (ioModeConfig «dual_flash») ⌝ }
+{
+    LinearQspiConfig(
+        bits::flag(dual_flash, LinearQspiConfig::BOTH_MEMORIES)
+            + bits::flag(dual_flash, LinearQspiConfig::SEPARATE_MEMORY_BUS)
+            + (1 << LinearQspiConfig::MODE_ON)
+            + (0xA0 << LinearQspiConfig::MODE_BITS)
+            + (2 << LinearQspiConfig::NUM_DUMMY_BYTES)
+            + InstructionCode::FastReadQuadIo.raw_value(),
+    )
+}
+
+// Whether `initialize` writes the loopback delay register, and what.
+pub enum LoopbackWrite {
+    Word(u32),
+    Nothing,
+}
+
+// The words of `initialize`: the clock control word that it returns, and what it writes to the QSPI block.
+pub struct InitializeWords {
+    pub lqspi_clk_ctrl: u32,
+    pub config: u32,
+    pub loopback: LoopbackWrite,
+}
+
+pub enum Initialization {
+    Words(InitializeWords),
+    // The clock divisor is wider than its six bits.
+    FieldTooWide,
+}
+
+// The config word, its fields from bit 31 down; those that are not here are 0.
+fn config_word(divisor: BaudRateDivisor, phase: bool, polarity: bool) -> u32
+    ensures word { λ r. ⌜ r ≡ configWord (initialConfig divisor phase polarity) ⌝ }
+{
+    (1 << Config::INTERFACE_MODE)
+        + (1 << Config::HOLDB_DR)
+        + (3 << Config::FIFO_WIDTH)
+        + (divisor.raw_value() << Config::BAUD_RATE_DIV)
+        + bits::flag(phase, Config::CLOCK_PHASE)
+        + bits::flag(polarity, Config::CLOCK_POLARITY)
+        + (1 << Config::MODE_SELECT)
+}
+
+fn clk_ctrl_word(divisor: u8, source: SrcSelIo) -> u32
+    requires { ⌜ divisor < 64 ⌝ }
+    ensures word { λ r. ⌜ r ≡ clockControlWord divisor (sourceCode source) 1 ⌝ }
+{
+    ((divisor as u32) << SingleCommonPeriphIoClockControl::DIVISOR)
+        + (source.raw_value() << SingleCommonPeriphIoClockControl::SRCSEL)
+        + (1 << SingleCommonPeriphIoClockControl::CLK_ACT)
+}
+
+fn loopback_write(config: BaudRateConfig) -> LoopbackWrite
+    ensures write { λ r. ⌜ writtenWords r ≡ loopbackWords config ⌝ }
+{
+    match config {
+        BaudRateConfig::WithLoopback => {
+            LoopbackWrite::Word(1 << LoopbackMasterClockDelay::USE_LOOPBACK)
+        }
+        BaudRateConfig::WithoutLoopback(_) => LoopbackWrite::Nothing,
+    }
+}
+
+// The words of `initialize` for a clock configuration, a phase and a polarity.
+pub fn initialize_words(clock_config: ClockConfig, phase: bool, polarity: bool) -> Initialization
+    ensures answer { λ r. ⌜ initializedAnswer r ≡ initializeAnswer «clock_config» phase polarity ⌝ }
+{
+    let ref_clk_div = clock_config.ref_clk_div;
+    let src_sel = clock_config.src_sel;
+    let baud_rate_config = clock_config.baud_rate_config;
+    if 63 < ref_clk_div {
+        return Initialization::FieldTooWide;
+    }
+    Initialization::Words(InitializeWords {
+        lqspi_clk_ctrl: clk_ctrl_word(ref_clk_div, src_sel),
+        config: config_word(baud_rate_config.baud_rate_divisor(), phase, polarity),
+        loopback: loopback_write(baud_rate_config),
+    })
+}
