@@ -1,2 +1,5 @@
+pub mod ClockAnswers
 pub mod ClockLaws
+pub mod InitializeLaws
+pub mod PresetWords
 pub mod WordLaws
