@@ -7,7 +7,7 @@ use native.Mathlib.Omega.{arith}
 use lib.Dec.{eqb, ltb}
 use borrow.Author.Tests.{lt-ltb, le-ltb, eq-eqb, ne-eqb, ltb-true, ltb-false, eqb-true, eqb-false}
 use Rattle.zynq7000.specs.Qspi.{offsetOf}
-use Rattle.zynq7000.specs.Access.{offsetIn, firstWord, valueWord, recordOf}
+use Rattle.zynq7000.specs.Access.{offsetIn, firstWord, valueWord, recordOf, Aligned}
 use Rattle.zynq7000.specs.declared.qspi.Access.{Access}
 use Rattle.zynq7000.specs.declared.qspi.Access.the-variants.{Read, Write}
 use Rattle.zynq7000.specs.declared.qspi.Record.{Record}
@@ -15,11 +15,7 @@ use Rattle.zynq7000.specs.declared.qspi.Record.the-variants as record-of
 use Rattle.zynq7000.specs.declared.qspi.Register.{Register}
 use Rattle.zynq7000.specs.declared.qspi.Register.the-variants as register
 
--- an offset that a log can hold: of a register, a multiple of 4 in a byte
-pub record Aligned (o : ℕ) : Type 0 where
-  pub fourth : o % 4 ≡ 0
-  pub byte : o < 256
-
+-- the registers' offsets are such
 pub register-aligned : (r : Register) → Aligned (offsetOf r)
 register-aligned register.Config = record { fourth = refl; byte = omega arith }
 register-aligned register.InterruptStatus = record { fourth = refl; byte = omega arith }

@@ -1,5 +1,6 @@
 -- An access in a log: document 01, "Log and printer". "An access is two 32-bit words: offset (plus 100 hex for a read), then value."
-use Prim.Native.Nat.{ℕ, _+_, _-_, _%_}
+use Prim.Native.Nat.{ℕ, _+_, _-_, _%_, _<_}
+use mathlib.Core.Path.{_≡_}
 use mathlib.Core.Bool.{Bool, true, false, cond}
 use mathlib.Core.List.{List, [], _∷_}
 use lib.Dec.{eqb, ltb}
@@ -19,6 +20,11 @@ firstWord (Write o v) = o
 abbrev pub valueWord : Access → ℕ
 valueWord (Read o v) = v
 valueWord (Write o v) = v
+
+-- an offset that a log can hold: a multiple of 4 in a byte
+pub record Aligned (offset : ℕ) : Type 0 where
+  pub fourth : offset % 4 ≡ 0
+  pub byte : offset < 256
 
 -- the log of a list of accesses
 unfoldable pub encode : List Access → List ℕ

@@ -29,10 +29,10 @@ pub fn clear(word: u32, at: u32) -> u32
     requires { ⌜ at < 32 ⌝ }
     ensures word { λ r. ⌜ r ≡ spec.clear at word ⌝ }
 {
-    if (word >> at) % 2 == 1 {
-        word - (1 << at)
-    } else {
+    if (word >> at) % 2 == 0 {
         word
+    } else {
+        word - (1 << at)
     }
 }
 

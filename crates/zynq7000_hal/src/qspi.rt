@@ -284,14 +284,14 @@ fn loopback_write(config: BaudRateConfig) -> LoopbackWrite
 pub fn initialize_words(clock_config: ClockConfig, phase: bool, polarity: bool) -> Initialization
     ensures answer { λ r. ⌜ initializedAnswer r ≡ initializeAnswer «clock_config» phase polarity ⌝ }
 {
-    let ref_clk_div = clock_config.ref_clk_div;
+    let divisor = clock_config.ref_clk_div;
     let src_sel = clock_config.src_sel;
     let baud_rate_config = clock_config.baud_rate_config;
-    if 63 < ref_clk_div {
+    if 63 < divisor {
         return Initialization::FieldTooWide;
     }
     Initialization::Words(InitializeWords {
-        lqspi_clk_ctrl: clk_ctrl_word(ref_clk_div, src_sel),
+        lqspi_clk_ctrl: clk_ctrl_word(divisor, src_sel),
         config: config_word(baud_rate_config.baud_rate_divisor(), phase, polarity),
         loopback: loopback_write(baud_rate_config),
     })

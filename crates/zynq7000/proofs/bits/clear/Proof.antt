@@ -14,15 +14,15 @@ shl-result c = search needs
 sub-result : tie.Need-sub-result
 sub-result c =
     let a = c .before .args in
-    omega (arith, weight (a .at) (c .before .pre), weight-le (a .at) (a .word) (omega arith))
+    omega (arith, weight (a .at) (c .before .pre), weight-le (a .at) (a .word) (omega (arith, c .if1 .left)))
 
 returns : tie.Need-returns
-returns c =
-    let a = c .before .args in
-    omega (arith, weight (a .at) (c .before .pre), clear-set (a .at) (a .word) (omega arith))
+returns c = omega (arith, clear-clear (c .before .args .at) (c .before .args .word) (c .if1 .taken))
 
 returns-2 : tie.Need-returns-2
-returns-2 c = omega (arith, clear-clear (c .before .args .at) (c .before .args .word) (omega (arith, c .if1 .left)))
+returns-2 c =
+    let a = c .before .args in
+    omega (arith, weight (a .at) (c .before .pre), clear-set (a .at) (a .word) (omega (arith, c .if1 .left)))
 
 pub clear-spec : {M : Type 1} → statement M
 clear-spec = tie.close (tie.spec shr-if1 shl-result sub-result returns returns-2)

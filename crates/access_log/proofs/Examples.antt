@@ -1,0 +1,18 @@
+-- Lines of document 01's example, "Log and printer", and a `BAD` line, computed from the definitions. Assumes nothing.
+use mathlib.Core.Path.{_≡_, refl}
+use mathlib.Core.List.{List, [], _∷_}
+use Rattle.zynq7000.specs.declared.qspi.Access.the-variants.{Read, Write}
+use Rattle.access_log.specs.Text.{lineOf, decimalUpTo, badLine}
+
+-- `W 00 8008C0C1`
+pub a-write : lineOf (Write 0x00 0x8008_C0C1) ≡ 87 ∷ 32 ∷ 48 ∷ 48 ∷ 32 ∷ 56 ∷ 48 ∷ 48 ∷ 56 ∷ 67 ∷ 48 ∷ 67 ∷ 49 ∷ 10 ∷ []
+a-write = refl
+
+-- `R 20 FF000000`
+pub a-read : lineOf (Read 0x20 0xFF00_0000) ≡ 82 ∷ 32 ∷ 50 ∷ 48 ∷ 32 ∷ 70 ∷ 70 ∷ 48 ∷ 48 ∷ 48 ∷ 48 ∷ 48 ∷ 48 ∷ 10 ∷ []
+a-read = refl
+
+-- `BAD 1100`
+pub a-bad-record : badLine 1100 ≡ 66 ∷ 65 ∷ 68 ∷ 32 ∷ 49 ∷ 49 ∷ 48 ∷ 48 ∷ 10 ∷ []
+unfolding badLine decimalUpTo
+a-bad-record = refl

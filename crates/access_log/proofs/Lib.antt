@@ -1,0 +1,11 @@
+pub mod Places
+pub mod Buffer
+pub mod Stream
+pub mod Decimal
+pub mod Lines
+pub mod Rendering
+pub mod RoundTrip
+pub mod Bytes
+pub mod Parts
+pub mod Answers
+pub mod Examples
