@@ -1,5 +1,5 @@
 // Prints the register map and the words that need no operation: offsets and fields, all 24 presets,
-// the linear word of I/O mode, and the words of `initialize`.
+// the linear words of I/O mode, and the words of `initialize`.
 use libc::STDOUT_FILENO;
 use zynq7000::qspi::BaudRateDivisor;
 use zynq7000::qspi::Config;
@@ -19,43 +19,175 @@ use zynq7000_hal::qspi::LoopbackWrite;
 use zynq7000_hal::qspi::QspiDeviceCombination;
 use zynq7000_hal::qspi::QspiVendor;
 
-fn text(s: &[u8]) {
-    io::write_all(STDOUT_FILENO, s);
+fn main() {
+    let mut i: u32 = 0;
+    while i < 87 {
+        case(i);
+        i += 1;
+    }
+}
+
+// Twelve offsets, 24 presets, both I/O modes, nine baud rates in four modes each, some clocks, and
+// the fields of the registers.
+fn case(i: u32) {
+    if i < 12 {
+        return offset(i);
+    }
+    if i < 36 {
+        return preset(i - 12);
+    }
+    if i < 38 {
+        return line(b"io mode", i - 36, qspi::io_mode_config(i == 37).0);
+    }
+    if i < 74 {
+        return baud(i - 38);
+    }
+    if i < 81 {
+        return clock(i - 74);
+    }
+    fields(i);
+}
+
+fn number(name: &[u8], n: u32) {
+    io::write_all(STDOUT_FILENO, name);
+    io::write_all(STDOUT_FILENO, b" ");
+    io::print_decimal(STDOUT_FILENO, n as u64);
 }
 
 fn word(w: u32) {
-    text(b" ");
+    io::write_all(STDOUT_FILENO, b" ");
     io::print_hex(STDOUT_FILENO, w as u64, 8);
 }
 
-fn offset(name: &[u8], r: Register) {
-    text(name);
-    text(b" ");
-    io::print_hex(STDOUT_FILENO, r.offset() as u64, 2);
-    text(b"\n");
+fn line(name: &[u8], n: u32, w: u32) {
+    number(name, n);
+    word(w);
+    io::write_all(STDOUT_FILENO, b"\n");
 }
 
-fn offsets() {
-    offset(b"config", Register::Config);
-    offset(b"interrupt_status", Register::InterruptStatus);
-    offset(b"spi_enable", Register::SpiEnable);
-    offset(b"tx_data_00", Register::TxData00);
-    offset(b"rx_data", Register::RxData);
-    offset(b"tx_fifo_threshold", Register::TxFifoThreshold);
-    offset(b"rx_fifo_threshold", Register::RxFifoThreshold);
-    offset(
-        b"loopback_master_clock_delay",
-        Register::LoopbackMasterClockDelay,
-    );
-    offset(b"tx_data_01", Register::TxData01);
-    offset(b"tx_data_10", Register::TxData10);
-    offset(b"tx_data_11", Register::TxData11);
-    offset(b"linear_qspi_config", Register::LinearQspiConfig);
+fn offset(i: u32) {
+    let register = match i {
+        0 => Register::Config,
+        1 => Register::InterruptStatus,
+        2 => Register::SpiEnable,
+        3 => Register::TxData00,
+        4 => Register::RxData,
+        5 => Register::TxFifoThreshold,
+        6 => Register::RxFifoThreshold,
+        7 => Register::LoopbackMasterClockDelay,
+        8 => Register::TxData01,
+        9 => Register::TxData10,
+        10 => Register::TxData11,
+        _ => Register::LinearQspiConfig,
+    };
+    line(b"register", i, register.offset() as u32);
 }
 
-fn bit(n: u32) {
-    text(b" ");
-    io::print_decimal(STDOUT_FILENO, n as u64);
+fn mode(i: u32) -> InstructionCode {
+    match i {
+        0 => InstructionCode::Read,
+        1 => InstructionCode::FastRead,
+        2 => InstructionCode::FastReadDualOutput,
+        3 => InstructionCode::FastReadQuadOutput,
+        4 => InstructionCode::FastReadDualIo,
+        _ => InstructionCode::FastReadQuadIo,
+    }
+}
+
+fn vendor(i: u32) -> QspiVendor {
+    match i {
+        0 => QspiVendor::WinbondAndSpansion,
+        _ => QspiVendor::Micron,
+    }
+}
+
+// Six modes for one device, six for two, of Winbond and Spansion and then of Micron.
+fn preset(i: u32) {
+    let combination = QspiDeviceCombination {
+        vendor: vendor(i / 12),
+        operating_mode: mode(i % 6),
+        two_devices: i / 6 % 2 == 1,
+    };
+    let config = qspi::linear_mode_config_for_common_devices(combination);
+    line(b"preset", i, config.0);
+}
+
+fn initialize(clock_config: ClockConfig, phase: bool, polarity: bool) {
+    match qspi::initialize_words(clock_config, phase, polarity) {
+        Initialization::FieldTooWide => {
+            io::write_all(STDOUT_FILENO, b" refused 12");
+        }
+        Initialization::Words(words) => {
+            let loopback = words.loopback;
+            word(words.lqspi_clk_ctrl);
+            word(words.config);
+            if let LoopbackWrite::Word(w) = loopback {
+                word(w);
+            }
+        }
+    }
+    io::write_all(STDOUT_FILENO, b"\n");
+}
+
+fn baud_rate_config(i: u32) -> BaudRateConfig {
+    match i {
+        0 => BaudRateConfig::WithoutLoopback(BaudRateDivisor::_2),
+        1 => BaudRateConfig::WithoutLoopback(BaudRateDivisor::_4),
+        2 => BaudRateConfig::WithoutLoopback(BaudRateDivisor::_8),
+        3 => BaudRateConfig::WithoutLoopback(BaudRateDivisor::_16),
+        4 => BaudRateConfig::WithoutLoopback(BaudRateDivisor::_32),
+        5 => BaudRateConfig::WithoutLoopback(BaudRateDivisor::_64),
+        6 => BaudRateConfig::WithoutLoopback(BaudRateDivisor::_128),
+        7 => BaudRateConfig::WithoutLoopback(BaudRateDivisor::_256),
+        _ => BaudRateConfig::WithLoopback,
+    }
+}
+
+// A baud rate, the last with loopback, in a mode of phase and polarity.
+fn baud(i: u32) {
+    let clock_config = ClockConfig {
+        src_sel: SrcSelIo::IoPll,
+        ref_clk_div: 5,
+        baud_rate_config: baud_rate_config(i / 4),
+    };
+    number(b"baud", i / 4);
+    number(b" mode", i % 4);
+    initialize(clock_config, i / 2 % 2 == 1, i % 2 == 1);
+}
+
+fn source(i: u32) -> SrcSelIo {
+    match i {
+        0 => SrcSelIo::IoPll,
+        1 => SrcSelIo::IoPllAlt,
+        2 => SrcSelIo::ArmPll,
+        _ => SrcSelIo::DdrPll,
+    }
+}
+
+// Divisors around 0 and 63, each with a source.
+fn clock(i: u32) {
+    let divisors: [u8; 8] = [0, 1, 62, 63, 64, 65, 255, 0];
+    let clock_config = ClockConfig {
+        src_sel: source(i % 4),
+        ref_clk_div: divisors[(i % 8) as usize],
+        baud_rate_config: BaudRateConfig::WithLoopback,
+    };
+    number(b"clock", i);
+    initialize(clock_config, false, false);
+}
+
+// The lowest bits of a register's fields.
+fn fields(i: u32) {
+    number(b"fields", i % 81);
+    match i {
+        81 => bits(&Config::field_bits()),
+        82 => bits(&InterruptStatus::field_bits()),
+        83 => bits(&SpiEnable::field_bits()),
+        84 => bits(&LoopbackMasterClockDelay::field_bits()),
+        85 => bits(&LinearQspiConfig::field_bits()),
+        _ => bits(&SingleCommonPeriphIoClockControl::field_bits()),
+    }
+    io::write_all(STDOUT_FILENO, b"\n");
 }
 
 fn bits(lows: &[u32]) {
@@ -66,138 +198,6 @@ fn bits(lows: &[u32]) {
     }
 }
 
-// The lowest bits of a register's fields.
-fn fields(name: &[u8], lows: &[u32]) {
-    text(name);
-    bits(lows);
-    text(b"\n");
-}
-
-fn all_fields() {
-    let config = Config::field_bits();
-    fields(b"Config", &config);
-    let status = InterruptStatus::field_bits();
-    fields(b"InterruptStatus", &status);
-    let enable = SpiEnable::field_bits();
-    fields(b"SpiEnable", &enable);
-    let loopback = LoopbackMasterClockDelay::field_bits();
-    fields(b"LoopbackMasterClockDelay", &loopback);
-    let linear = LinearQspiConfig::field_bits();
-    fields(b"LinearQspiConfig", &linear);
-    let clock = SingleCommonPeriphIoClockControl::field_bits();
-    fields(b"SingleCommonPeriphIoClockControl", &clock);
-}
-
-fn preset(vendor: QspiVendor, operating_mode: InstructionCode, two_devices: bool) {
-    let combination = QspiDeviceCombination {
-        vendor,
-        operating_mode,
-        two_devices,
-    };
-    let config = qspi::linear_mode_config_for_common_devices(combination);
-    word(config.0);
-}
-
-fn presets(name: &[u8], vendor: QspiVendor, two_devices: bool) {
-    text(name);
-    preset(vendor, InstructionCode::Read, two_devices);
-    preset(vendor, InstructionCode::FastRead, two_devices);
-    preset(vendor, InstructionCode::FastReadDualOutput, two_devices);
-    preset(vendor, InstructionCode::FastReadQuadOutput, two_devices);
-    preset(vendor, InstructionCode::FastReadDualIo, two_devices);
-    preset(vendor, InstructionCode::FastReadQuadIo, two_devices);
-    text(b"\n");
-}
-
-fn all_presets() {
-    presets(b"Spansion, one:", QspiVendor::WinbondAndSpansion, false);
-    presets(b"Spansion, two:", QspiVendor::WinbondAndSpansion, true);
-    presets(b"Micron, one:", QspiVendor::Micron, false);
-    presets(b"Micron, two:", QspiVendor::Micron, true);
-    text(b"I/O mode:");
-    let one = qspi::io_mode_config(false);
-    word(one.0);
-    let two = qspi::io_mode_config(true);
-    word(two.0);
-    text(b"\n");
-}
-
-fn initialize(clock_config: ClockConfig, phase: bool, polarity: bool) {
-    match qspi::initialize_words(clock_config, phase, polarity) {
-        Initialization::FieldTooWide => text(b" refused 12"),
-        Initialization::Words(words) => {
-            let loopback = words.loopback;
-            word(words.lqspi_clk_ctrl);
-            word(words.config);
-            match loopback {
-                LoopbackWrite::Word(w) => word(w),
-                LoopbackWrite::Nothing => text(b" -"),
-            }
-        }
-    }
-}
-
-// The words of one baud rate, in the four modes of phase and polarity.
-fn modes(name: &[u8], baud_rate_config: BaudRateConfig) {
-    let clock_config = ClockConfig {
-        src_sel: SrcSelIo::IoPll,
-        ref_clk_div: 5,
-        baud_rate_config,
-    };
-    text(name);
-    initialize(clock_config, false, false);
-    initialize(clock_config, false, true);
-    initialize(clock_config, true, false);
-    initialize(clock_config, true, true);
-    text(b"\n");
-}
-
-fn without_loopback(divisor: BaudRateDivisor) {
-    text(b"divisor ");
-    io::print_decimal(STDOUT_FILENO, divisor.divisor() as u64);
-    modes(b":", BaudRateConfig::WithoutLoopback(divisor));
-}
-
-fn all_bauds() {
-    modes(b"loopback:", BaudRateConfig::WithLoopback);
-    without_loopback(BaudRateDivisor::_2);
-    without_loopback(BaudRateDivisor::_4);
-    without_loopback(BaudRateDivisor::_8);
-    without_loopback(BaudRateDivisor::_16);
-    without_loopback(BaudRateDivisor::_32);
-    without_loopback(BaudRateDivisor::_64);
-    without_loopback(BaudRateDivisor::_128);
-    without_loopback(BaudRateDivisor::_256);
-}
-
-fn clock(src_sel: SrcSelIo, ref_clk_div: u8) {
-    let clock_config = ClockConfig {
-        src_sel,
-        ref_clk_div,
-        baud_rate_config: BaudRateConfig::WithLoopback,
-    };
-    text(b"source ");
-    io::print_decimal(STDOUT_FILENO, src_sel.raw_value() as u64);
-    text(b" divisor ");
-    io::print_decimal(STDOUT_FILENO, ref_clk_div as u64);
-    text(b":");
-    initialize(clock_config, false, false);
-    text(b"\n");
-}
-
-fn all_clocks() {
-    clock(SrcSelIo::IoPll, 0);
-    clock(SrcSelIo::IoPllAlt, 1);
-    clock(SrcSelIo::ArmPll, 62);
-    clock(SrcSelIo::DdrPll, 63);
-    clock(SrcSelIo::IoPll, 64);
-    clock(SrcSelIo::DdrPll, 255);
-}
-
-fn main() {
-    offsets();
-    all_fields();
-    all_presets();
-    all_bauds();
-    all_clocks();
+fn bit(n: u32) {
+    number(b"", n);
 }
