@@ -11,7 +11,7 @@ use Rattle.zynq7000.specs.Number.{RefDivOutOfRange, RefClockSmallerThanCpu1xClo
 use Rattle.zynq7000.specs.Slcr.{sourceCode}
 use Rattle.zynq7000.specs.declared.slcr.clocks.SrcSelIo.{SrcSelIo}
 use Rattle.zynq7000_hal.specs.declared.clocks.Clocks.{Clocks}
-use Rattle.zynq7000_hal.specs.Clocks.{roundedUp, ladder, sourceClock, dividedClock, quotient, calculateAnswer, loopbackAnswer}
+use Rattle.zynq7000_hal.specs.Clocks.{roundedUp, ladder, sourceClock, dividedClock, quotient, baudAnswer, calculateAnswer, loopbackAnswer}
 
 -- ---- rounding up: the quotient, and one more where something is left
 
@@ -86,6 +86,10 @@ module _ (s : SrcSelIo) (c : Clocks) (t i : ℕ) where
 
   pub reference-clock-zero : (t ≡ 0 → ⊥) → roundedUp (sourceClock s c) t ≤ 63 → sourceClock s c ≡ 0 → calculateAnswer s c t i ≡ refused ZeroClock
   reference-clock-zero h l z = simp (ne-eqb t 0 h, le-ltb 63 (roundedUp (sourceClock s c) t) l, eq-eqb (sourceClock s c) 0 z)
+
+  pub divided : (t ≡ 0 → ⊥) → roundedUp (sourceClock s c) t ≤ 63 → (sourceClock s c ≡ 0 → ⊥)
+      → calculateAnswer s c t i ≡ baudAnswer s (roundedUp (sourceClock s c) t) (dividedClock (sourceClock s c) t) (c .«cpu_1x_clk») i
+  divided h l z = simp (ne-eqb t 0 h, le-ltb 63 (roundedUp (sourceClock s c) t) l, ne-eqb (sourceClock s c) 0 z)
 
   pub below-cpu-clock : (t ≡ 0 → ⊥) → roundedUp (sourceClock s c) t ≤ 63 → (sourceClock s c ≡ 0 → ⊥)
       → dividedClock (sourceClock s c) t < c .«cpu_1x_clk»

@@ -74,20 +74,20 @@ ladder q =
     (cond (leb q 128) 64
     (cond (leb q 256) 128 256)))))))
 
+-- what follows once the reference is divided: 7, 8 (interface target), or the ladder's divisor
+abbrev pub baudAnswer : SrcSelIo → ℕ → ℕ → ℕ → ℕ → Answer
+baudAnswer s divisor divided cpu interface =
+    cond (ltb divided cpu) (refused RefClockSmallerThanCpu1xClock)
+    (cond (eqb interface 0) (refused ZeroClock)
+    (accepted (sourceCode s ∷ divisor ∷ 0 ∷ ladder (roundedUp divided interface) ∷ [])))
+
 -- `calculate`: 8 (reference target), 6, 8 (reference clock 0), 7, 8 (interface target)
 abbrev pub calculateAnswer : SrcSelIo → Clocks → ℕ → ℕ → Answer
 calculateAnswer s c target interface =
     cond (eqb target 0) (refused ZeroClock)
     (cond (ltb 63 (roundedUp (sourceClock s c) target)) (refused RefDivOutOfRange)
     (cond (eqb (sourceClock s c) 0) (refused ZeroClock)
-    (cond (ltb (dividedClock (sourceClock s c) target) (c .«cpu_1x_clk»)) (refused RefClockSmallerThanCpu1xClock)
-    (cond (eqb interface 0) (refused ZeroClock)
-    (accepted
-    (sourceCode s
-    ∷ roundedUp (sourceClock s c) target
-    ∷ 0
-    ∷ ladder (quotient (sourceClock s c) target interface)
-    ∷ []))))))
+    (baudAnswer s (roundedUp (sourceClock s c) target) (dividedClock (sourceClock s c) target) (c .«cpu_1x_clk») interface)))
 
 -- loopback: 9, 8, 6
 abbrev pub loopbackAnswer : SrcSelIo → Clocks → ℕ → Answer

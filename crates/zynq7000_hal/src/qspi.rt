@@ -5,7 +5,7 @@ ghost use Prim.Native.Nat.{_<_};
 ghost use Rattle.zynq7000.specs.Number.{number};
 ghost use Rattle.zynq7000.specs.Qspi.{divisorOf, configWord, linearWord};
 ghost use Rattle.zynq7000.specs.Slcr.{sourceCode, clockControlWord};
-ghost use Rattle.zynq7000_hal.specs.Clocks.{roundedUp, ladder, refusalOf, answerOf, calculateAnswer, loopbackAnswer, baudOf};
+ghost use Rattle.zynq7000_hal.specs.Clocks.{roundedUp, ladder, refusalOf, answerOf, baudAnswer, calculateAnswer, loopbackAnswer, baudOf};
 ghost use Rattle.zynq7000_hal.specs.Presets.{presetOf, ioModeConfig};
 ghost use Rattle.zynq7000_hal.specs.Initialize.{initialConfig, writtenWords, loopbackWords, initializedAnswer, initializeAnswer};
 use crate::clocks::Clocks;
@@ -105,6 +105,30 @@ fn baud_rate_div(quotient: u32) -> BaudRateDivisor
     }
 }
 
+// The interface's part of `calculate`, with a divided reference clock.
+fn baud_rate(
+    src_sel: SrcSelIo,
+    ref_clk_div: u8,
+    qspi_ref_clk: u32,
+    cpu_1x_clk: u32,
+    target_qspi_interface_clock: u32,
+) -> ClockCalculation
+    ensures answer { λ r. ⌜ answerOf r ≡ baudAnswer «src_sel» «ref_clk_div» «qspi_ref_clk» «cpu_1x_clk» «target_qspi_interface_clock» ⌝ }
+{
+    if qspi_ref_clk < cpu_1x_clk {
+        return ClockCalculation::Refused(ClockCalculationError::RefClockSmallerThanCpu1xClock);
+    }
+    if target_qspi_interface_clock == 0 {
+        return ClockCalculation::Refused(ClockCalculationError::ZeroClock);
+    }
+    let quotient = div_ceil(qspi_ref_clk, target_qspi_interface_clock);
+    ClockCalculation::Config(ClockConfig {
+        src_sel,
+        ref_clk_div,
+        baud_rate_config: BaudRateConfig::WithoutLoopback(baud_rate_div(quotient)),
+    })
+}
+
 impl ClockConfig {
     // The clock divisor for an interface clock in loopback mode, where the baud rate divisor is 2.
     pub fn calculate_with_loopback(
@@ -153,18 +177,14 @@ impl ClockConfig {
             return ClockCalculation::Refused(ClockCalculationError::ZeroClock);
         }
         let qspi_ref_clk = ref_clk / ref_clk_div;
-        if qspi_ref_clk < clocks.cpu_1x_clk {
-            return ClockCalculation::Refused(ClockCalculationError::RefClockSmallerThanCpu1xClock);
-        }
-        if target_qspi_interface_clock == 0 {
-            return ClockCalculation::Refused(ClockCalculationError::ZeroClock);
-        }
-        let quotient = div_ceil(qspi_ref_clk, target_qspi_interface_clock);
-        ClockCalculation::Config(ClockConfig {
+        let cpu_1x_clk = clocks.cpu_1x_clk;
+        baud_rate(
             src_sel,
-            ref_clk_div: ref_clk_div as u8,
-            baud_rate_config: BaudRateConfig::WithoutLoopback(baud_rate_div(quotient)),
-        })
+            ref_clk_div as u8,
+            qspi_ref_clk,
+            cpu_1x_clk,
+            target_qspi_interface_clock,
+        )
     }
 }
 
