@@ -1,8 +1,11 @@
--- Lines of document 01's example, "Log and printer", and a `BAD` line, computed from the definitions. Assumes nothing.
+-- Lines of document 01's example, "Log and printer", and a `BAD` line, computed from the definitions; and witnesses. Assumes nothing.
 use mathlib.Core.Path.{_≡_, refl}
+use mathlib.Core.Bool.{true, false}
 use mathlib.Core.List.{List, [], _∷_}
+use native.Mathlib.Omega.{arith}
 use Rattle.zynq7000.specs.declared.qspi.Access.the-variants.{Read, Write}
-use Rattle.access_log.specs.Text.{lineOf, decimalUpTo, badLine}
+use Rattle.access_log.specs.Log.{entryIn, Loggable, bytesOf}
+use Rattle.access_log.specs.Text.{lineOf, decimalUpTo, badLine, allAccesses}
 
 -- `W 00 8008C0C1`
 pub a-write : lineOf (Write 0x00 0x8008_C0C1) ≡ 87 ∷ 32 ∷ 48 ∷ 48 ∷ 32 ∷ 56 ∷ 48 ∷ 48 ∷ 56 ∷ 67 ∷ 48 ∷ 67 ∷ 49 ∷ 10 ∷ []
@@ -16,3 +19,18 @@ a-read = refl
 pub a-bad-record : badLine 1100 ≡ 66 ∷ 65 ∷ 68 ∷ 32 ∷ 49 ∷ 49 ∷ 48 ∷ 48 ∷ 10 ∷ []
 unfolding badLine decimalUpTo
 a-bad-record = refl
+
+-- ---- the premises of the laws can be met
+
+-- of `reads-back`: accesses of registers
+pub loggable-accesses : Loggable (Read 0x04 0x10 ∷ Write 0x80 0x06 ∷ [])
+loggable-accesses = (record { fourth = refl; byte = omega arith }, (record { fourth = refl; byte = omega arith }, tt))
+
+-- of `text-of-parts` and of `text-stops`: a record that is an access, and one that is none
+pub all-accesses : allAccesses 1 (bytesOf (0x80 ∷ 0x06 ∷ [])) 0 ≡ true
+unfolding allAccesses entryIn bytesOf
+all-accesses = refl
+
+pub not-all-accesses : allAccesses 1 (bytesOf (0x82 ∷ 0x06 ∷ [])) 0 ≡ false
+unfolding allAccesses entryIn bytesOf
+not-all-accesses = refl
