@@ -1,6 +1,10 @@
-// Prints the register map and the words that need no operation: offsets and fields, all 24 presets,
-// the linear words of I/O mode, and the words of `initialize`.
+// Prints the register map and the words that need no operation: offsets, fields and commands, all 24
+// presets, the linear words of I/O mode, and the words of `initialize`.
 use libc::STDOUT_FILENO;
+use zedboard_bsp::qspi_spansion::ConfigRegister1;
+use zedboard_bsp::qspi_spansion::QSPI_DEV_COMBINATION_REV_F;
+use zedboard_bsp::qspi_spansion::RegisterId;
+use zedboard_bsp::qspi_spansion::StatusRegister1;
 use zynq7000::qspi::BaudRateDivisor;
 use zynq7000::qspi::Config;
 use zynq7000::qspi::InstructionCode;
@@ -21,14 +25,14 @@ use zynq7000_hal::qspi::QspiVendor;
 
 fn main() {
     let mut i: u32 = 0;
-    while i < 87 {
+    while i < 102 {
         case(i);
         i += 1;
     }
 }
 
-// Twelve offsets, 24 presets, both I/O modes, nine baud rates in four modes each, some clocks, and
-// the fields of the registers.
+// Twelve offsets, 24 presets, both I/O modes, nine baud rates in four modes each, some clocks, the
+// fields of the registers, twelve commands, and the preset of the ZedBoard.
 fn case(i: u32) {
     if i < 12 {
         return offset(i);
@@ -45,7 +49,14 @@ fn case(i: u32) {
     if i < 81 {
         return clock(i - 74);
     }
-    fields(i);
+    if i < 89 {
+        return fields(i);
+    }
+    if i < 101 {
+        return command(i - 89);
+    }
+    let config = qspi::linear_mode_config_for_common_devices(QSPI_DEV_COMBINATION_REV_F);
+    line(b"revision F", 0, config.0);
 }
 
 fn number(name: &[u8], n: u32) {
@@ -65,8 +76,8 @@ fn line(name: &[u8], n: u32, w: u32) {
     io::write_all(STDOUT_FILENO, b"\n");
 }
 
-fn offset(i: u32) {
-    let register = match i {
+fn register(i: u32) -> Register {
+    match i {
         0 => Register::Config,
         1 => Register::InterruptStatus,
         2 => Register::SpiEnable,
@@ -79,8 +90,11 @@ fn offset(i: u32) {
         9 => Register::TxData10,
         10 => Register::TxData11,
         _ => Register::LinearQspiConfig,
-    };
-    line(b"register", i, register.offset() as u32);
+    }
+}
+
+fn offset(i: u32) {
+    line(b"register", i, register(i).offset() as u32);
 }
 
 fn mode(i: u32) -> InstructionCode {
@@ -179,15 +193,42 @@ fn clock(i: u32) {
 // The lowest bits of a register's fields.
 fn fields(i: u32) {
     number(b"fields", i % 81);
+    field_bits(i);
+    io::write_all(STDOUT_FILENO, b"\n");
+}
+
+fn field_bits(i: u32) {
     match i {
         81 => bits(&Config::field_bits()),
         82 => bits(&InterruptStatus::field_bits()),
         83 => bits(&SpiEnable::field_bits()),
         84 => bits(&LoopbackMasterClockDelay::field_bits()),
         85 => bits(&LinearQspiConfig::field_bits()),
-        _ => bits(&SingleCommonPeriphIoClockControl::field_bits()),
+        86 => bits(&SingleCommonPeriphIoClockControl::field_bits()),
+        87 => bits(&StatusRegister1::field_bits()),
+        _ => bits(&ConfigRegister1::field_bits()),
     }
-    io::write_all(STDOUT_FILENO, b"\n");
+}
+
+fn id(i: u32) -> RegisterId {
+    match i {
+        0 => RegisterId::WriteRegisters,
+        1 => RegisterId::PageProgram,
+        2 => RegisterId::Read,
+        3 => RegisterId::WriteDisable,
+        4 => RegisterId::ReadStatus1,
+        5 => RegisterId::WriteEnable,
+        6 => RegisterId::ReadStatus2,
+        7 => RegisterId::FastRead,
+        8 => RegisterId::ClearStatus,
+        9 => RegisterId::ReadConfig,
+        10 => RegisterId::ReadId,
+        _ => RegisterId::SectorErase,
+    }
+}
+
+fn command(i: u32) {
+    line(b"command", i, id(i).raw_value() as u32);
 }
 
 fn bits(lows: &[u32]) {

@@ -1,4 +1,4 @@
--- `register_words::main` is safe and ends: the case's number rises to 87. Assumes nothing.
+-- `register_words::main` is safe and ends: the case's number rises to 102. Assumes nothing.
 use Prim.Native.Nat.{_-_}
 use native.Mathlib.Omega.{arith}
 use Rattle.register_words.proofs.main.Statement.{statement}
@@ -8,7 +8,7 @@ abbrev Inv-loop : tie.InvT-loop
 Inv-loop i₀ i = Unit {0}
 
 abbrev μ-loop : tie.MeasureT-loop
-μ-loop i₀ i = 87 - i
+μ-loop i₀ i = 102 - i
 
 loop-holds : tie.Need-loop-holds Inv-loop μ-loop
 loop-holds c = tt

@@ -1,0 +1,29 @@
+-- The S25FL256S: command bytes from the datasheet's command set summary, and the fields of its registers SR1 and CR1.
+use Prim.Native.Nat.{ℕ}
+use mathlib.Core.List.{List, [], _∷_}
+use Rattle.zynq7000.specs.Qspi.{Field, field}
+use Rattle.zedboard_bsp.specs.declared.qspi_spansion.RegisterId.{RegisterId}
+use Rattle.zedboard_bsp.specs.declared.qspi_spansion.RegisterId.the-variants as command
+
+-- WRR, PP, READ, WRDI, RDSR1, WREN, RDSR2, FAST_READ, CLSR, RDCR, RDID, SE
+abbrev pub commandByte : RegisterId → ℕ
+commandByte command.WriteRegisters = 0x01
+commandByte command.PageProgram = 0x02
+commandByte command.Read = 0x03
+commandByte command.WriteDisable = 0x04
+commandByte command.ReadStatus1 = 0x05
+commandByte command.WriteEnable = 0x06
+commandByte command.ReadStatus2 = 0x07
+commandByte command.FastRead = 0x0B
+commandByte command.ClearStatus = 0x30
+commandByte command.ReadConfig = 0x35
+commandByte command.ReadId = 0x9F
+commandByte command.SectorErase = 0xD8
+
+-- SR1: SRWD, P_ERR, E_ERR, BP2 to BP0, WEL, WIP
+abbrev pub statusTable : List Field
+statusTable = field 7 1 ∷ field 6 1 ∷ field 5 1 ∷ field 2 3 ∷ field 1 1 ∷ field 0 1 ∷ []
+
+-- CR1: LC1 and LC0, TBPROT, BPNV, TBPARM, QUAD, FREEZE; bit 4 has no field
+abbrev pub configTable : List Field
+configTable = field 6 2 ∷ field 5 1 ∷ field 3 1 ∷ field 2 1 ∷ field 1 1 ∷ field 0 1 ∷ []

@@ -1,0 +1,2 @@
+// The ZedBoard: its flash chip.
+pub mod qspi_spansion;

@@ -1,0 +1,129 @@
+// The Spansion S25FL256S, after the Rust file `zedboard-bsp/src/qspi_spansion.rs`: command bytes, and
+// the fields of status register 1 and configuration register 1.
+ghost use mathlib.Core.Path.{_≡_};
+ghost use Rattle.zynq7000.specs.Qspi.{lows};
+ghost use Rattle.zedboard_bsp.specs.Spansion.{commandByte, statusTable, configTable};
+use zynq7000_hal::qspi::OperatingMode;
+use zynq7000_hal::qspi::QspiDeviceCombination;
+use zynq7000_hal::qspi::QspiVendor;
+
+// The ZedBoard's revision F has one such chip.
+pub const QSPI_DEV_COMBINATION_REV_F: QspiDeviceCombination = QspiDeviceCombination {
+    vendor: QspiVendor::WinbondAndSpansion,
+    operating_mode: OperatingMode::FastReadQuadOutput,
+    two_devices: false,
+};
+
+// The commands in use.
+pub enum RegisterId {
+    // WRR
+    WriteRegisters,
+    // PP
+    PageProgram,
+    // READ
+    Read,
+    // WRDI
+    WriteDisable,
+    // RDSR1
+    ReadStatus1,
+    // WREN
+    WriteEnable,
+    // RDSR2
+    ReadStatus2,
+    // FAST_READ
+    FastRead,
+    // CLSR
+    ClearStatus,
+    // RDCR
+    ReadConfig,
+    // RDID
+    ReadId,
+    // SE
+    SectorErase,
+}
+
+impl RegisterId {
+    // The command's byte.
+    pub fn raw_value(self) -> u8
+        ensures byte { λ r. ⌜ r ≡ commandByte self ⌝ }
+    {
+        match self {
+            RegisterId::WriteRegisters => 0x01,
+            RegisterId::PageProgram => 0x02,
+            RegisterId::Read => 0x03,
+            RegisterId::WriteDisable => 0x04,
+            RegisterId::ReadStatus1 => 0x05,
+            RegisterId::WriteEnable => 0x06,
+            RegisterId::ReadStatus2 => 0x07,
+            RegisterId::FastRead => 0x0B,
+            RegisterId::ClearStatus => 0x30,
+            RegisterId::ReadConfig => 0x35,
+            RegisterId::ReadId => 0x9F,
+            RegisterId::SectorErase => 0xD8,
+        }
+    }
+}
+
+// Status register 1: the lowest bit of each field.
+pub struct StatusRegister1(pub u8);
+
+impl StatusRegister1 {
+    // SRWD
+    pub const STATUS_REGISTER_WRITE_DISABLE: u32 = 7;
+    // P_ERR
+    pub const PROGRAMMING_ERROR: u32 = 6;
+    // E_ERR
+    pub const ERASE_ERROR: u32 = 5;
+    // BP, three bits
+    pub const BLOCK_PROTECTION: u32 = 2;
+    // WEL
+    pub const WRITE_ENABLE_LATCH: u32 = 1;
+    // WIP
+    pub const WRITE_IN_PROGRESS: u32 = 0;
+
+    // The lowest bits of the fields, from bit 7 down.
+    pub fn field_bits() -> [u32; 6]
+        ensures table { λ r. ⌜ r ≡ lows statusTable ⌝ }
+    {
+        [
+            Self::STATUS_REGISTER_WRITE_DISABLE,
+            Self::PROGRAMMING_ERROR,
+            Self::ERASE_ERROR,
+            Self::BLOCK_PROTECTION,
+            Self::WRITE_ENABLE_LATCH,
+            Self::WRITE_IN_PROGRESS,
+        ]
+    }
+}
+
+// Configuration register 1: the lowest bit of each field. Bit 4 has none.
+pub struct ConfigRegister1(pub u8);
+
+impl ConfigRegister1 {
+    // LC, two bits
+    pub const LATENCY_CODE: u32 = 6;
+    // Can not be set back to 0.
+    pub const TBPROT: u32 = 5;
+
+    pub const BPNV: u32 = 3;
+    // Can not be set back to 0.
+    pub const TBPARM: u32 = 2;
+
+    pub const QUAD: u32 = 1;
+
+    pub const FREEZE: u32 = 0;
+
+    // The lowest bits of the fields, from bit 7 down.
+    pub fn field_bits() -> [u32; 6]
+        ensures table { λ r. ⌜ r ≡ lows configTable ⌝ }
+    {
+        [
+            Self::LATENCY_CODE,
+            Self::TBPROT,
+            Self::BPNV,
+            Self::TBPARM,
+            Self::QUAD,
+            Self::FREEZE,
+        ]
+    }
+}
