@@ -6,6 +6,7 @@ use mathlib.Core.Bool.{Bool, true, false}
 use native.Mathlib.Omega.{arith}
 use native.Mathlib.Nat.{mod-eq-of-lt}
 use Rattle.zynq7000.specs.Bits.{flagValue}
+use Rattle.zynq7000_hal.specs.Presets.{modeBits}
 
 pub flag-le : (b : Bool) → flagValue b ≤ 1
 flag-le true = omega arith
@@ -22,26 +23,36 @@ config-sum k p q a b hk hp hq ea eb =
     let w : q % 2 ≡ q = mod-eq-of-lt (omega arith) in
     rw (x, y, z, w) (omega arith)
 
--- d dummy bytes, an instruction byte i, two memories f; with mode bits m and n are their fields' parts
-table-sum : (d i f m n : ℕ) → d < 8 → i < 256 → f ≤ 1
-    → 2147483648 + (f % 2 * 1073741824 + (f % 2 * 536870912 + (0 + (m + (0 + (n + (d % 8 * 256 + (i % 256 * 1 + 0))))))))
-    ≡ 2147483648 + f * 1073741824 + f * 536870912 + m + n + d * 256 + i
-table-sum d i f m n hd hi hf =
-    let x : f % 2 ≡ f = mod-eq-of-lt (omega arith) in
+mode-lt : (b : Bool) → modeBits b < 256
+mode-lt true = omega arith
+mode-lt false = omega arith
+
+-- d dummy bytes, an instruction byte i, two memories f, mode bits m that are sent where e is 1
+linear-sum : (d i f e m a b g n : ℕ) → d < 8 → i < 256 → f ≤ 1 → e ≤ 1 → m < 256
+    → a ≡ f * 1073741824
+    → b ≡ f * 536870912
+    → g ≡ e * 33554432
+    → n ≡ m * 65536
+    → (((((2147483648 + a) + b) + g) + n) + d * 256 % 4294967296) + i
+    ≡ 2147483648 + (f % 2 * 1073741824 + (f % 2 * 536870912 + (0 + (e % 2 * 33554432 + (0 + (m % 256 * 65536 + (d % 8 * 256 + (i % 256 * 1 + 0))))))))
+linear-sum d i f e m a b g n hd hi hf he hm ea eb eg en =
+    let u : d * 256 % 4294967296 ≡ d * 256 = mod-eq-of-lt (omega arith) in
+    let v : f % 2 ≡ f = mod-eq-of-lt (omega arith) in
+    let w : e % 2 ≡ e = mod-eq-of-lt (omega arith) in
+    let x : m % 256 ≡ m = mod-eq-of-lt hm in
     let y : d % 8 ≡ d = mod-eq-of-lt hd in
     let z : i % 256 ≡ i = mod-eq-of-lt hi in
-    rw (x, y, z) (omega arith)
+    rw (u, v, w, x, y, z) (omega arith)
 
-pub output-sum : (d i f a b : ℕ) → d < 8 → i < 256 → f ≤ 1 → a ≡ f * 1073741824 → b ≡ f * 536870912
-    → (((2147483648 + a) + b) + d * 256 % 4294967296) + i
-    ≡ 2147483648 + (f % 2 * 1073741824 + (f % 2 * 536870912 + (0 + (0 + (0 + (0 + (d % 8 * 256 + (i % 256 * 1 + 0))))))))
-output-sum d i f a b hd hi hf ea eb =
-    let x : d * 256 % 4294967296 ≡ d * 256 = mod-eq-of-lt (omega arith) in
-    rw (x, table-sum d i f 0 0 hd hi hf) (omega arith)
-
-pub io-sum : (d i f a b : ℕ) → d < 8 → i < 256 → f ≤ 1 → a ≡ f * 1073741824 → b ≡ f * 536870912
-    → (((((2147483648 + a) + b) + 33554432) + 16711680) + d * 256 % 4294967296) + i
-    ≡ 2147483648 + (f % 2 * 1073741824 + (f % 2 * 536870912 + (0 + (33554432 + (0 + (16711680 + (d % 8 * 256 + (i % 256 * 1 + 0))))))))
-io-sum d i f a b hd hi hf ea eb =
-    let x : d * 256 % 4294967296 ≡ d * 256 = mod-eq-of-lt (omega arith) in
-    rw (x, table-sum d i f 33554432 16711680 hd hi hf) (omega arith)
+-- the same of the values that the code has
+pub read-sum : (d i a b g n : ℕ) (two mode : Bool) → d < 8 → i < 256
+    → a ≡ flagValue two * 1073741824
+    → b ≡ flagValue two * 536870912
+    → g ≡ flagValue mode * 33554432
+    → n ≡ modeBits mode * 65536
+    → (((((2147483648 + a) + b) + g) + n) + d * 256 % 4294967296) + i
+    ≡ 2147483648
+    + (flagValue two % 2 * 1073741824
+    + (flagValue two % 2 * 536870912
+    + (0 + (flagValue mode % 2 * 33554432 + (0 + (modeBits mode % 256 * 65536 + (d % 8 * 256 + (i % 256 * 1 + 0))))))))
+read-sum d i a b g n two mode hd hi = linear-sum d i (flagValue two) (flagValue mode) (modeBits mode) a b g n hd hi (flag-le two) (flag-le mode) (mode-lt mode)

@@ -218,17 +218,17 @@ pub fn linear_mode_config_for_common_devices(
     let mode = dev_combination.operating_mode;
     let two = dev_combination.two_devices;
     match mode {
-        InstructionCode::Read => lqspi_configs::output_read(mode, 0, two),
-        InstructionCode::FastRead => lqspi_configs::output_read(mode, 1, two),
-        InstructionCode::FastReadDualOutput => lqspi_configs::output_read(mode, 1, two),
-        InstructionCode::FastReadQuadOutput => lqspi_configs::output_read(mode, 1, two),
+        InstructionCode::Read => lqspi_configs::linear_read(mode, false, 0, two),
+        InstructionCode::FastRead => lqspi_configs::linear_read(mode, false, 1, two),
+        InstructionCode::FastReadDualOutput => lqspi_configs::linear_read(mode, false, 1, two),
+        InstructionCode::FastReadQuadOutput => lqspi_configs::linear_read(mode, false, 1, two),
         InstructionCode::FastReadDualIo => match vendor {
-            QspiVendor::WinbondAndSpansion => lqspi_configs::io_read(mode, 0, two),
-            QspiVendor::Micron => lqspi_configs::io_read(mode, 1, two),
+            QspiVendor::WinbondAndSpansion => lqspi_configs::linear_read(mode, true, 0, two),
+            QspiVendor::Micron => lqspi_configs::linear_read(mode, true, 1, two),
         },
         InstructionCode::FastReadQuadIo => match vendor {
-            QspiVendor::WinbondAndSpansion => lqspi_configs::io_read(mode, 2, two),
-            QspiVendor::Micron => lqspi_configs::io_read(mode, 4, two),
+            QspiVendor::WinbondAndSpansion => lqspi_configs::linear_read(mode, true, 2, two),
+            QspiVendor::Micron => lqspi_configs::linear_read(mode, true, 4, two),
         },
     }
 }

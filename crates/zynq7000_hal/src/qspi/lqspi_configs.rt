@@ -1,49 +1,41 @@
-// The linear mode configurations of UG585, table 12-3. The Rust has a constant for each; here two
-// forms of a read say them all, one without and one with mode bits after the address.
+// The linear mode configurations of UG585, table 12-3. The Rust has a constant for each; here one
+// function says them all.
 ghost use mathlib.Core.Path.{_≡_};
-ghost use Prim.Native.Nat.{_<_};
-ghost use Rattle.zynq7000.specs.Bits.{flagValue};
-ghost use Rattle.zynq7000.specs.Qspi.{linearWord, instructionByte};
-ghost use Rattle.zynq7000_hal.specs.Presets.{linearRead};
-ghost use mathlib.Core.Bool.{true, false};
+ghost use Prim.Native.Nat.{_*_, _≤_, _<_};
+ghost use Rattle.zynq7000.specs.Qspi.{linearWord};
+ghost use Rattle.zynq7000_hal.specs.Presets.{modeBits, linearRead};
 use zynq7000::bits;
 use zynq7000::qspi::InstructionCode;
 use zynq7000::qspi::LinearQspiConfig;
 
-// A read whose address goes over one line: no mode bits.
-pub fn output_read(
+// A read in linear mode. Where the address goes over several lines, mode bits follow it.
+pub fn linear_read(
     instruction_code: InstructionCode,
+    sends_mode: bool,
     num_dummy_bytes: u32,
     two_devices: bool,
 ) -> LinearQspiConfig
     requires { ⌜ «num_dummy_bytes» < 8 ⌝ }
-    ensures config { λ r. ⌜ r .0 ≡ linearWord (linearRead «instruction_code» false «num_dummy_bytes» «two_devices») ⌝ }
+    ensures config { λ r. ⌜ r .0 ≡ linearWord (linearRead «instruction_code» «sends_mode» «num_dummy_bytes» «two_devices») ⌝ }
 {
     LinearQspiConfig(
         (1 << LinearQspiConfig::ENABLE_LINEAR_MODE)
             + bits::flag(two_devices, LinearQspiConfig::BOTH_MEMORIES)
             + bits::flag(two_devices, LinearQspiConfig::SEPARATE_MEMORY_BUS)
+            + bits::flag(sends_mode, LinearQspiConfig::MODE_ENABLE)
+            + mode_bits(sends_mode)
             + (num_dummy_bytes << LinearQspiConfig::NUM_DUMMY_BYTES)
             + instruction_code.raw_value(),
     )
 }
 
-// A read whose address goes over several lines: mode bits FF follow it.
-pub fn io_read(
-    instruction_code: InstructionCode,
-    num_dummy_bytes: u32,
-    two_devices: bool,
-) -> LinearQspiConfig
-    requires { ⌜ «num_dummy_bytes» < 8 ⌝ }
-    ensures config { λ r. ⌜ r .0 ≡ linearWord (linearRead «instruction_code» true «num_dummy_bytes» «two_devices») ⌝ }
+// The mode bits' part of the word: FF where they are sent.
+fn mode_bits(sends_mode: bool) -> u32
+    ensures part { λ r. ⌜ (r ≡ modeBits «sends_mode» * 0x1_0000) × (r ≤ 0xFF_0000) ⌝ }
 {
-    LinearQspiConfig(
-        (1 << LinearQspiConfig::ENABLE_LINEAR_MODE)
-            + bits::flag(two_devices, LinearQspiConfig::BOTH_MEMORIES)
-            + bits::flag(two_devices, LinearQspiConfig::SEPARATE_MEMORY_BUS)
-            + (1 << LinearQspiConfig::MODE_ENABLE)
-            + (0xFF << LinearQspiConfig::MODE_BITS)
-            + (num_dummy_bytes << LinearQspiConfig::NUM_DUMMY_BYTES)
-            + instruction_code.raw_value(),
-    )
+    if sends_mode {
+        0xFF << LinearQspiConfig::MODE_BITS
+    } else {
+        0
+    }
 }
