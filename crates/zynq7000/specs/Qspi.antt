@@ -75,7 +75,8 @@ assemble [] vs = 0
 assemble (f ∷ fs) [] = 0
 assemble (field low width ∷ fs) (v ∷ vs) = v % 2 ^ width * 2 ^ low + assemble fs vs
 
--- Config_reg: Man_start_com reads as 0
+-- Config_reg: 31 ifmode, 26 endian, 19 Holdb_dr, 16 Man_start_com, 15 Man_start_en, 14 Manual_CS, 10 PCS, 7:6 FIFO_WIDTH,
+-- 5:3 BAUD_RATE_DIV, 2 CLK_PH, 1 CLK_POL, 0 MODE_SEL; the bits between are reserved
 abbrev pub configTable : List Field
 configTable =
     field 31 1
@@ -92,6 +93,7 @@ configTable =
     ∷ field 0 1
     ∷ []
 
+-- the values of its fields, by the Rust's names, in the table's order
 pub record Config : Type 0 where
   pub interface-mode : ℕ
   pub edianness : ℕ
@@ -144,7 +146,7 @@ loopbackTable = field 5 1 ∷ field 3 2 ∷ field 0 3 ∷ []
 abbrev pub loopbackWord : ℕ → ℕ → ℕ → ℕ
 loopbackWord on delay1 delay0 = assemble loopbackTable (on ∷ delay1 ∷ delay0 ∷ [])
 
--- LQSPI_CFG
+-- LQSPI_CFG: 31 LQ_MODE, 30 TWO_MEM, 29 SEP_BUS, 28 U_PAGE, 25 MODE_EN, 24 MODE_ON, 23:16 MODE_BITS, 10:8 DUMMY_BYTE, 7:0 INST_CODE
 abbrev pub linearTable : List Field
 linearTable =
     field 31 1
@@ -158,6 +160,7 @@ linearTable =
     ∷ field 0 8
     ∷ []
 
+-- the values of its fields
 pub record Linear : Type 0 where
   pub enable-linear-mode : ℕ
   pub both-memories : ℕ

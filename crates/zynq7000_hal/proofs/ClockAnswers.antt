@@ -16,7 +16,7 @@ use Rattle.zynq7000.specs.declared.qspi.BaudRateDivisor.{BaudRateDivisor}
 use Rattle.zynq7000.specs.declared.qspi.BaudRateDivisor.the-variants as baud
 use Rattle.zynq7000.specs.declared.slcr.clocks.SrcSelIo.{SrcSelIo}
 use Rattle.zynq7000.specs.declared.slcr.clocks.SrcSelIo.the-variants.{IoPll, IoPllAlt, ArmPll, DdrPll}
-use Rattle.zynq7000_hal.specs.Clocks.{answerOf, roundedUp, sourceClock, dividedClock, calculateAnswer, loopbackAnswer}
+use Rattle.zynq7000_hal.specs.Clocks.{answerOf, roundedUp, sourceClock, dividedClock, quotient, calculateAnswer, loopbackAnswer}
 use Rattle.zynq7000_hal.specs.declared.clocks.Clocks.{Clocks}
 use Rattle.zynq7000_hal.specs.declared.qspi.BaudRateConfig.{BaudRateConfig}
 use Rattle.zynq7000_hal.specs.declared.qspi.BaudRateConfig.the-variants.{WithLoopback, WithoutLoopback}
@@ -295,3 +295,20 @@ module _ (s : SrcSelIo) (c : Clocks) (t : ℕ) where
   loopback-zero-reference h z e =
       let d : roundedUp (sourceClock s c) (t * 2) ≡ 0 = div-eq-of-lt (omega (arith, z)) in
       loopback-calculated s c t 0 h z (rw d (omega arith)) ∙ ap (λ (n : ℕ). accepted (sourceCode s ∷ n ∷ 1 ∷ 2 ∷ [])) d
+
+-- ---- 01, "Station cases": 5,000,000 gives quotient 40 and divisor 256, 2,500,000 gives 80 and 64
+
+abbrev station : Clocks
+station = record { «io_ref_clk» = 1000000000; «arm_ref_clk» = 0; «ddr_ref_clk» = 0; «cpu_1x_clk» = 111111111 }
+
+pub quotient-40 : quotient 1000000000 200000000 5000000 ≡ 40
+quotient-40 = refl
+
+pub quotient-80 : quotient 1000000000 200000000 2500000 ≡ 80
+quotient-80 = refl
+
+pub divisor-256 : calculateAnswer IoPll station 200000000 5000000 ≡ accepted (0 ∷ 5 ∷ 0 ∷ 256 ∷ [])
+divisor-256 = refl
+
+pub divisor-64 : calculateAnswer IoPll station 200000000 2500000 ≡ accepted (0 ∷ 5 ∷ 0 ∷ 64 ∷ [])
+divisor-64 = refl

@@ -1,5 +1,5 @@
-// The QSPI controller, after the Rust module `zynq7000-hal/src/qspi/mod.rs`: the clock calculation, the linear mode presets and
-// the words that `initialize` and `enable_io_mode` write.
+// The QSPI controller, after the Rust module `zynq7000-hal/src/qspi/mod.rs`: the clock calculation,
+// the linear mode presets and the words that `initialize` and `enable_io_mode` write.
 ghost use mathlib.Core.Path.{_≡_};
 ghost use Prim.Native.Nat.{_<_};
 ghost use Rattle.zynq7000.specs.Number.{number};
@@ -254,7 +254,8 @@ pub enum LoopbackWrite {
     Nothing,
 }
 
-// The words of `initialize`: the clock control word that it returns, and what it writes to the QSPI block.
+// The words of `initialize`: the clock control word that it returns, and what it writes to the QSPI
+// block.
 pub struct InitializeWords {
     pub lqspi_clk_ctrl: u32,
     pub config: u32,
