@@ -298,8 +298,8 @@ module _ (s : SrcSelIo) (c : Clocks) (t : ℕ) where
 
 -- ---- 01, "Station cases": 5,000,000 gives quotient 40 and divisor 256, 2,500,000 gives 80 and 64
 
-abbrev station : Clocks
-station = record { «io_ref_clk» = 1000000000; «arm_ref_clk» = 0; «ddr_ref_clk» = 0; «cpu_1x_clk» = 111111111 }
+abbrev case-clocks : Clocks
+case-clocks = record { «io_ref_clk» = 1000000000; «arm_ref_clk» = 0; «ddr_ref_clk» = 0; «cpu_1x_clk» = 111111111 }
 
 pub quotient-40 : quotient 1000000000 200000000 5000000 ≡ 40
 quotient-40 = refl
@@ -307,8 +307,8 @@ quotient-40 = refl
 pub quotient-80 : quotient 1000000000 200000000 2500000 ≡ 80
 quotient-80 = refl
 
-pub divisor-256 : calculateAnswer IoPll station 200000000 5000000 ≡ accepted (0 ∷ 5 ∷ 0 ∷ 256 ∷ [])
+pub divisor-256 : calculateAnswer IoPll case-clocks 200000000 5000000 ≡ accepted (0 ∷ 5 ∷ 0 ∷ 256 ∷ [])
 divisor-256 = refl
 
-pub divisor-64 : calculateAnswer IoPll station 200000000 2500000 ≡ accepted (0 ∷ 5 ∷ 0 ∷ 64 ∷ [])
+pub divisor-64 : calculateAnswer IoPll case-clocks 200000000 2500000 ≡ accepted (0 ∷ 5 ∷ 0 ∷ 64 ∷ [])
 divisor-64 = refl

@@ -1,34 +1,27 @@
+-- `zynq7000::qspi::Access::words` meets its contract: each arm gives the two words of its case, and 100 hex plus an offset of a byte fits.
+-- Assumes nothing.
 use borrow.Author.Needs.{needs}
 use Rattle.zynq7000.proofs.qspi.Access.words.Statement.{statement}
 use Rattle.zynq7000.proofs.qspi.Access.words.Tie as tie
-use Rattle.zynq7000.proofs.qspi.Access.words.Reads as reads
-use Rattle.zynq7000.proofs.qspi.Access.words.Lts as lts
 
--- src/qspi.rt:360:26
 enum-known-self : tie.Need-enum-known-self
 enum-known-self c = search needs
 
--- src/qspi.rt:361:32
 cast-t7 : tie.Need-cast-t7
 cast-t7 c = search needs
 
--- src/qspi.rt:361:24
 add-t8 : tie.Need-add-t8
 add-t8 c = search needs
 
--- src/qspi.rt:364:27
 enum-known-self-2 : tie.Need-enum-known-self-2
 enum-known-self-2 c = search needs
 
--- src/qspi.rt:365:24
 cast-t9 : tie.Need-cast-t9
 cast-t9 c = search needs
 
--- src/qspi.rt:356:5
 returns : tie.Need-returns
 returns c = simp (c .before .self .given .1) (search needs)
 
--- src/qspi.rt:356:5
 returns-2 : tie.Need-returns-2
 returns-2 c = search needs
 
