@@ -1,1 +1,4 @@
 pub mod Spansion
+pub mod Words
+pub mod Registers
+pub mod DeviceId

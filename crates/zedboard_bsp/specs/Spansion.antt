@@ -20,10 +20,36 @@ commandByte command.ReadConfig = 0x35
 commandByte command.ReadId = 0x9F
 commandByte command.SectorErase = 0xD8
 
--- SR1: SRWD, P_ERR, E_ERR, BP2 to BP0, WEL, WIP
-abbrev pub statusTable : List Field
-statusTable = field 7 1 ∷ field 6 1 ∷ field 5 1 ∷ field 2 3 ∷ field 1 1 ∷ field 0 1 ∷ []
+-- ---- SR1: SRWD, P_ERR, E_ERR, BP2 to BP0, WEL, WIP
 
--- CR1: LC1 and LC0, TBPROT, BPNV, TBPARM, QUAD, FREEZE; bit 4 has no field
+abbrev pub statusRegisterWriteDisable : Field
+statusRegisterWriteDisable = field 7 1
+
+abbrev pub programmingError : Field
+programmingError = field 6 1
+
+abbrev pub eraseError : Field
+eraseError = field 5 1
+
+abbrev pub blockProtection : Field
+blockProtection = field 2 3
+
+abbrev pub writeEnableLatch : Field
+writeEnableLatch = field 1 1
+
+abbrev pub writeInProgress : Field
+writeInProgress = field 0 1
+
+abbrev pub statusTable : List Field
+statusTable = statusRegisterWriteDisable ∷ programmingError ∷ eraseError ∷ blockProtection ∷ writeEnableLatch ∷ writeInProgress ∷ []
+
+-- ---- CR1: LC1 and LC0, TBPROT, BPNV, TBPARM, QUAD, FREEZE; bit 4 has no field
+
+abbrev pub latencyCode : Field
+latencyCode = field 6 2
+
+abbrev pub quadBit : Field
+quadBit = field 1 1
+
 abbrev pub configTable : List Field
-configTable = field 6 2 ∷ field 5 1 ∷ field 3 1 ∷ field 2 1 ∷ field 1 1 ∷ field 0 1 ∷ []
+configTable = latencyCode ∷ field 5 1 ∷ field 3 1 ∷ field 2 1 ∷ quadBit ∷ field 0 1 ∷ []

@@ -1,11 +1,27 @@
 // The Spansion S25FL256S, after the Rust file `zedboard-bsp/src/qspi_spansion.rs`: command bytes, and
 // the fields of status register 1 and configuration register 1.
 ghost use mathlib.Core.Path.{_≡_};
-ghost use Rattle.zynq7000.specs.Qspi.{lows};
-ghost use Rattle.zedboard_bsp.specs.Spansion.{commandByte, statusTable, configTable};
+ghost use Rattle.zynq7000.specs.Bits.{isSet};
+ghost use Rattle.zynq7000.specs.Qspi.{lows, lowest};
+ghost use Rattle.zedboard_bsp.specs.Registers.{fieldValue};
+ghost use Rattle.zedboard_bsp.specs.Spansion.{commandByte, statusTable, configTable, programmingError, eraseError, blockProtection, writeInProgress};
 use zynq7000_hal::qspi::OperatingMode;
 use zynq7000_hal::qspi::QspiDeviceCombination;
 use zynq7000_hal::qspi::QspiVendor;
+
+pub mod device_id;
+pub mod registers;
+pub mod words;
+
+// 4 bytes are reserved for command byte and address. Rounded down at a 16 byte boundary, as the
+// datasheet recommends.
+pub const MAX_DATA_BYTES_PER_WRITE: usize = 240;
+// Crosses no page boundary and does not exceed the FIFO.
+pub const RECOMMENDED_PROGRAM_PAGE_SIZE: usize = 128;
+
+pub const PAGE_SIZE: usize = 0x100;
+
+pub const SECTOR_SIZE: usize = 0x10000;
 
 // The ZedBoard's revision F has one such chip.
 pub const QSPI_DEV_COMBINATION_REV_F: QspiDeviceCombination = QspiDeviceCombination {
@@ -93,6 +109,30 @@ impl StatusRegister1 {
             Self::WRITE_ENABLE_LATCH,
             Self::WRITE_IN_PROGRESS,
         ]
+    }
+
+    pub fn programming_error(self) -> bool
+        ensures bit { λ r. ⌜ r ≡ isSet (lowest programmingError) (self .0) ⌝ }
+    {
+        (self.0 >> Self::PROGRAMMING_ERROR) % 2 == 1
+    }
+
+    pub fn erase_error(self) -> bool
+        ensures bit { λ r. ⌜ r ≡ isSet (lowest eraseError) (self .0) ⌝ }
+    {
+        (self.0 >> Self::ERASE_ERROR) % 2 == 1
+    }
+
+    pub fn block_protection(self) -> u8
+        ensures field { λ r. ⌜ r ≡ fieldValue blockProtection (self .0) ⌝ }
+    {
+        (self.0 >> Self::BLOCK_PROTECTION) % 8
+    }
+
+    pub fn write_in_progress(self) -> bool
+        ensures bit { λ r. ⌜ r ≡ isSet (lowest writeInProgress) (self .0) ⌝ }
+    {
+        (self.0 >> Self::WRITE_IN_PROGRESS) % 2 == 1
     }
 }
 

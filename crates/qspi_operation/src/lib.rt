@@ -1,0 +1,405 @@
+// An operation as a state by value: the access that is due, the step that makes and logs it, and a run
+// over replies and a log. Document 01, "What changes shape" and "What the state can bring on".
+ghost use mathlib.Core.Path.{_≡_};
+ghost use Prim.Native.Nat.{_+_, _≤_};
+ghost use lib.Dec.{leb};
+ghost use lib.ListN.{length};
+ghost use Rattle.qspi_operation.specs.Step.{isGoing, registerAccess, sendAccess, turnedOn, wentOn, accessOf, shown, dueOf, answered, sameLengths, going, verdictOf, stopped, counted, moved, written, replyOf, stepOf, logOf, bufferOf};
+ghost use Rattle.qspi_operation.specs.Run.{runOf, Ran};
+use crate::store;
+use qspi_script::Job;
+use qspi_script::Place;
+use qspi_script::Status;
+use qspi_script;
+use qspi_transfer::Due;
+use qspi_transfer::Moved;
+use qspi_transfer::Phase;
+use qspi_transfer::Wire;
+use qspi_transfer::low_level;
+use qspi_transfer;
+use zynq7000::bits;
+use zynq7000::qspi;
+use zynq7000::qspi::Config;
+
+pub mod store;
+
+// The call, where it stands, the used counts (log words, replies), and its answer so far.
+pub struct Op {
+    pub job: Job,
+    pub place: Place,
+    pub wire: Wire,
+    pub used: usize,
+    pub replies: usize,
+    pub status: Status,
+}
+
+// A step is handed one reply or none.
+pub enum Reply {
+    Word(u32),
+    Nothing,
+}
+
+// The access due, asked for without effect; nothing where the operation has ended.
+pub enum Asked {
+    Read(u8),
+    Write(u8, u32),
+    Nothing,
+    LentLengthChanged,
+}
+
+// The operation after a step, and what the step answers.
+pub struct Stepped {
+    pub op: Op,
+    pub answer: Status,
+}
+
+// What a step does: nothing, or one access, as its two log words and whether it used a reply.
+pub enum Verdict {
+    Ended,
+    Changed,
+    Full,
+    Dry,
+    Made(u32, u32, bool),
+}
+
+pub fn is_going(status: Status) -> bool
+    ensures going { λ r. ⌜ r ≡ isGoing status ⌝ }
+{
+    match status {
+        Status::Going => true,
+        Status::Done => false,
+        Status::OutOfRange => false,
+        Status::Alignment => false,
+        Status::DataTooLarge => false,
+        Status::NotAligned => false,
+        Status::CrossesPageBoundary => false,
+        Status::AddressSpan => false,
+        Status::FieldTooWide => false,
+        Status::EraseErrorBitSet => false,
+        Status::ProgrammingErrorBitSet => false,
+        Status::RepliesEnded => false,
+        Status::LogFull => false,
+        Status::LentLengthChanged => false,
+    }
+}
+
+// The access of a register call.
+fn register_access(job: Job, wire: Wire) -> Due
+    ensures due { λ r. ⌜ r ≡ registerAccess job wire ⌝ }
+{
+    let call = job.low_level;
+    let sequence = call.sequence;
+    low_level::due(sequence, wire.sent, wire.config, call.word)
+}
+
+// The word that a transfer sends next.
+fn send(job: Job, place: Place, wire: Wire, data: &[u8]) -> Due
+    ensures due { λ r. ⌜ r ≡ sendAccess job place wire (now («data» .entry)) ⌝ }
+{
+    let frame = qspi_script::frame(job, place);
+    Due::Write(
+        frame.port,
+        qspi_script::due_word(job, place, wire.sent, data),
+    )
+}
+
+// The access of an operation that is going on.
+fn access(job: Job, place: Place, wire: Wire, data: &[u8]) -> Due
+    ensures due { λ r. ⌜ r ≡ accessOf job place wire (now («data» .entry)) ⌝ }
+{
+    let phase = wire.phase;
+    let config = wire.config;
+    match phase {
+        Phase::Send => send(job, place, wire, data),
+        Phase::DrainStatus => Due::Read(qspi::INTERRUPT_STATUS),
+        Phase::DrainData => Due::Read(qspi::RX_DATA),
+        Phase::OpenRead => Due::Read(qspi::CONFIG),
+        Phase::OpenWrite => Due::Write(
+            qspi::CONFIG,
+            bits::clear(config, Config::PERIPHERAL_CHIP_SELECT),
+        ),
+        Phase::Enable => Due::Write(qspi::SPI_ENABLE, 1),
+        Phase::StartRead => Due::Read(qspi::CONFIG),
+        Phase::StartWrite => Due::Write(
+            qspi::CONFIG,
+            bits::put(config, Config::MANUAL_START_COMMAND),
+        ),
+        Phase::Wait => Due::Read(qspi::INTERRUPT_STATUS),
+        Phase::WaitAgain => Due::Read(qspi::INTERRUPT_STATUS),
+        Phase::Take => Due::Read(qspi::RX_DATA),
+        Phase::CloseRead => Due::Read(qspi::CONFIG),
+        Phase::CloseWrite => Due::Write(
+            qspi::CONFIG,
+            bits::put(config, Config::PERIPHERAL_CHIP_SELECT),
+        ),
+        Phase::Disable => Due::Write(qspi::SPI_ENABLE, 0),
+        Phase::Registers => register_access(job, wire),
+    }
+}
+
+fn asked(due: Due) -> Asked
+    ensures asked { λ r. ⌜ r ≡ shown due ⌝ }
+{
+    match due {
+        Due::Read(offset) => Asked::Read(offset),
+        Due::Write(offset, value) => Asked::Write(offset, value),
+    }
+}
+
+// The access that is due, by the data lent.
+pub fn due(op: Op, data: &[u8]) -> Asked
+    ensures due { λ r. ⌜ r ≡ dueOf op (now («data» .entry)) ⌝ }
+{
+    let job = op.job;
+    let place = op.place;
+    let wire = op.wire;
+    let status = op.status;
+    let lent = job.lent;
+    if is_going(status) {
+        if data.len() == lent.data {
+            asked(access(job, place, wire, data))
+        } else {
+            Asked::LentLengthChanged
+        }
+    } else {
+        Asked::Nothing
+    }
+}
+
+// A read uses the reply at a place; a write uses none.
+fn answer_by(due: Due, replies: &[u32], at: usize) -> Verdict
+    ensures verdict { λ r. ⌜ r ≡ answered due (replyOf (now (replies .entry)) at) ⌝ }
+{
+    match due {
+        Due::Read(offset) => {
+            if at < replies.len() {
+                Verdict::Made(0x100 + offset as u32, replies[at], true)
+            } else {
+                Verdict::Dry
+            }
+        }
+        Due::Write(offset, value) => Verdict::Made(offset as u32, value, false),
+    }
+}
+
+// Whether the memory has the lengths that were lent at the start.
+fn same_lengths(job: Job, data: usize, buffer: usize, log: usize) -> bool
+    ensures same { λ r. ⌜ r ≡ sameLengths job «data» buffer log ⌝ }
+{
+    let lent = job.lent;
+    if data == lent.data {
+        if buffer == lent.buffer {
+            if log == lent.log {
+                return true;
+            }
+        }
+    }
+    false
+}
+
+// Whether two words of log are left.
+fn has_room(used: usize, room: usize) -> bool
+    ensures room { λ r. ⌜ r ≡ leb (used + 2) room ⌝ }
+{
+    if room < 2 {
+        return false;
+    }
+    if used <= room - 2 { true } else { false }
+}
+
+// 25, then 24, then 23.
+fn judged_going(op: Op, data: &[u8], buffer: usize, room: usize, replies: &[u32], at: usize) -> Verdict
+    ensures verdict { λ r. ⌜ r ≡ going op (now («data» .entry)) buffer room (replyOf (now (replies .entry)) at) ⌝ }
+{
+    let job = op.job;
+    let place = op.place;
+    let wire = op.wire;
+    if same_lengths(job, data.len(), buffer, room) {
+        if has_room(op.used, room) {
+            answer_by(access(job, place, wire, data), replies, at)
+        } else {
+            Verdict::Full
+        }
+    } else {
+        Verdict::Changed
+    }
+}
+
+fn judged(op: Op, data: &[u8], buffer: usize, room: usize, replies: &[u32], at: usize) -> Verdict
+    ensures verdict { λ r. ⌜ r ≡ verdictOf op (now («data» .entry)) buffer room (replyOf (now (replies .entry)) at) ⌝ }
+{
+    let status = op.status;
+    if is_going(status) {
+        judged_going(op, data, buffer, room, replies, at)
+    } else {
+        Verdict::Ended
+    }
+}
+
+// Ended without an access.
+fn stop(op: Op, status: Status) -> Stepped
+    ensures stepped { λ r. ⌜ r ≡ stopped op status ⌝ }
+{
+    let job = op.job;
+    let place = op.place;
+    let wire = op.wire;
+    let ended = Op {
+        job,
+        place,
+        wire,
+        used: op.used,
+        replies: op.replies,
+        status,
+    };
+    Stepped {
+        op: ended,
+        answer: status,
+    }
+}
+
+// The next transfer begins; after the last one the replies stay for the answer.
+fn turned(op: Op, used: usize, replies: usize) -> Stepped
+    ensures stepped { λ r. ⌜ r ≡ turnedOn op used replies ⌝ }
+{
+    let job = op.job;
+    let wire = op.wire;
+    let t = qspi_script::turn(job, op.place, wire.last);
+    let place = t.place;
+    let status = t.status;
+    if is_going(status) {
+        let fresh = qspi_transfer::begin(Phase::DrainStatus);
+        let next = Op {
+            job,
+            place,
+            wire: fresh,
+            used,
+            replies,
+            status,
+        };
+        Stepped { op: next, answer: status }
+    } else {
+        let next = Op {
+            job,
+            place,
+            wire,
+            used,
+            replies,
+            status,
+        };
+        Stepped { op: next, answer: status }
+    }
+}
+
+// The same transfer goes on.
+fn went_on(op: Op, wire: Wire, used: usize, replies: usize) -> Stepped
+    ensures stepped { λ r. ⌜ r ≡ wentOn op wire used replies ⌝ }
+{
+    let job = op.job;
+    let place = op.place;
+    let next = Op {
+        job,
+        place,
+        wire,
+        used,
+        replies,
+        status: Status::Going,
+    };
+    Stepped {
+        op: next,
+        answer: Status::Going,
+    }
+}
+
+// After an access of a value, with the new used counts.
+fn went(op: Op, used: usize, replies: usize, value: u32) -> Stepped
+    ensures stepped { λ r. ⌜ r ≡ moved op used replies value ⌝ }
+{
+    let wire = op.wire;
+    match qspi_transfer::advance(wire, qspi_script::frame(op.job, op.place), value) {
+        Moved::On(next) => went_on(op, next, used, replies),
+        Moved::Over => turned(op, used, replies),
+    }
+}
+
+// A reply is counted where the access was a read.
+fn count(read: bool, replies: usize) -> usize
+    ensures count { λ r. ⌜ r ≡ counted read replies ⌝ }
+{
+    if read {
+        std::num::wrapping_add_usize(replies, 1)
+    } else {
+        replies
+    }
+}
+
+// An access goes into the log.
+fn put(log: &mut [u32], at: usize, first: u32, value: u32)
+    requires { ⌜ at + 2 ≤ length (now log) ⌝ }
+    ensures logged { λ r. ⌜ now (log .exit) ≡ written (now (log .entry)) at first value ⌝ }
+{
+    log[at] = first;
+    log[at + 1] = value;
+}
+
+// One step of an operation, where the reply is the one at a place of the replies.
+pub fn step_at(
+    op: Op,
+    data: &[u8],
+    buffer: &mut [u8],
+    log: &mut [u32],
+    replies: &[u32],
+    at: usize,
+) -> Stepped
+    ensures state { λ r. ⌜ r ≡ stepOf op (now («data» .entry)) (length (now (buffer .entry))) (length (now (log .entry))) (replyOf (now (replies .entry)) at) ⌝ }
+    ensures logged { λ r. ⌜ now (log .exit) ≡ logOf op (now («data» .entry)) (length (now (buffer .entry))) (now (log .entry)) (replyOf (now (replies .entry)) at) ⌝ }
+    ensures stored { λ r. ⌜ now (buffer .exit) ≡ bufferOf op (now («data» .entry)) (now (buffer .entry)) (length (now (log .entry))) (replyOf (now (replies .entry)) at) ⌝ }
+{
+    let used = op.used;
+    let status = op.status;
+    match judged(op, data, buffer.len(), log.len(), replies, at) {
+        Verdict::Ended => Stepped { op, answer: status },
+        Verdict::Changed => Stepped {
+            op,
+            answer: Status::LentLengthChanged,
+        },
+        Verdict::Full => stop(op, Status::LogFull),
+        Verdict::Dry => stop(op, Status::RepliesEnded),
+        Verdict::Made(first, value, read) => {
+            put(log, used, first, value);
+            store::store(buffer, op.job, op.place, op.wire, value);
+            went(op, used + 2, count(read, op.replies), value)
+        }
+    }
+}
+
+// One step of an operation.
+pub fn step(op: Op, data: &[u8], buffer: &mut [u8], log: &mut [u32], reply: Reply) -> Stepped
+    ensures state { λ r. ⌜ r ≡ stepOf op (now («data» .entry)) (length (now (buffer .entry))) (length (now (log .entry))) reply ⌝ }
+    ensures logged { λ r. ⌜ now (log .exit) ≡ logOf op (now («data» .entry)) (length (now (buffer .entry))) (now (log .entry)) reply ⌝ }
+    ensures stored { λ r. ⌜ now (buffer .exit) ≡ bufferOf op (now («data» .entry)) (now (buffer .entry)) (length (now (log .entry))) reply ⌝ }
+{
+    match reply {
+        Reply::Word(word) => {
+            let one = [word];
+            step_at(op, data, buffer, log, &one, 0)
+        }
+        Reply::Nothing => {
+            let none = [0u32; 0];
+            step_at(op, data, buffer, log, &none, 0)
+        }
+    }
+}
+
+// Steps an operation to its end, the replies in order.
+pub fn run(op: Op, data: &[u8], buffer: &mut [u8], log: &mut [u32], replies: &[u32]) -> Stepped
+    ensures ran { λ r. ⌜ Ran r (now (buffer .exit)) (now (log .exit)) (runOf op (now («data» .entry)) (now (replies .entry)) (now (buffer .entry)) (now (log .entry))) ⌝ }
+{
+    let mut o = op;
+    let mut answer = op.status;
+    while is_going(answer) {
+        let s = step_at(o, data, buffer, log, replies, o.replies);
+        o = s.op;
+        answer = s.answer;
+    }
+    Stepped { op: o, answer }
+}

@@ -1,0 +1,110 @@
+// The bytes of a reply go to their places in the lent buffer. Document 01: "The reply to the command
+// word is dropped; with a dummy, the first byte of the next reply is dropped too."
+ghost use mathlib.Core.Path.{_≡_};
+ghost use Prim.Native.Nat.{_+_, _<_};
+ghost use Rattle.qspi_operation.specs.Store.{storeByte, storeReply, isTaking, isReading, skipped, stored};
+use qspi_script::Job;
+use qspi_script::Place;
+use qspi_script::Stage;
+use qspi_transfer::Phase;
+use qspi_transfer::Wire;
+use zedboard_bsp::qspi_spansion::words;
+
+// One byte, by its place among the bytes after the first reply; the dummy byte and bytes past the
+// chunk are dropped.
+fn store_byte(buffer: &mut [u8], place: Place, dummy: u32, at: u32, byte: u8)
+    ensures stored { λ r. ⌜ now (buffer .exit) ≡ storeByte (now (buffer .entry)) place dummy at byte ⌝ }
+{
+    if dummy <= at {
+        if at - dummy < place.chunk as u32 {
+            let i = std::num::wrapping_add_usize(place.done, (at - dummy) as usize);
+            if i < buffer.len() {
+                buffer[i] = byte;
+            }
+        }
+    }
+}
+
+// The four bytes of a reply, low byte first.
+fn store_reply(buffer: &mut [u8], place: Place, dummy: u32, at: u32, reply: u32)
+    requires { ⌜ at + 3 < 4294967296 ⌝ }
+    ensures stored { λ r. ⌜ now (buffer .exit) ≡ storeReply (now (buffer .entry)) place dummy at reply ⌝ }
+{
+    store_byte(buffer, place, dummy, at, (reply % 0x100) as u8);
+    store_byte(buffer, place, dummy, at + 1, (reply / 0x100 % 0x100) as u8);
+    store_byte(buffer, place, dummy, at + 2, (reply / 0x10000 % 0x100) as u8);
+    store_byte(buffer, place, dummy, at + 3, (reply / 0x1000000) as u8);
+}
+
+fn is_taking(phase: Phase) -> bool
+    ensures taking { λ r. ⌜ r ≡ isTaking phase ⌝ }
+{
+    match phase {
+        Phase::DrainStatus => false,
+        Phase::DrainData => false,
+        Phase::OpenRead => false,
+        Phase::OpenWrite => false,
+        Phase::Enable => false,
+        Phase::Send => false,
+        Phase::StartRead => false,
+        Phase::StartWrite => false,
+        Phase::Wait => false,
+        Phase::WaitAgain => false,
+        Phase::Take => true,
+        Phase::CloseRead => false,
+        Phase::CloseWrite => false,
+        Phase::Disable => false,
+        Phase::Registers => false,
+    }
+}
+
+fn is_reading(stage: Stage) -> bool
+    ensures reading { λ r. ⌜ r ≡ isReading stage ⌝ }
+{
+    match stage {
+        Stage::Enable => false,
+        Stage::Disable => false,
+        Stage::Clear => false,
+        Stage::ReadStatus => false,
+        Stage::ReadConfig => false,
+        Stage::WriteStatus => false,
+        Stage::WriteRegisters => false,
+        Stage::ReadId => false,
+        Stage::ReadLongId => false,
+        Stage::Erase => false,
+        Stage::Program => false,
+        Stage::Poll => false,
+        Stage::Read => true,
+        Stage::Registers => false,
+        Stage::End => false,
+    }
+}
+
+// How many bytes of the reply after the first are dropped.
+fn dummy_bytes(dummy: bool) -> u32
+    ensures count { λ r. ⌜ r ≡ skipped dummy ⌝ }
+{
+    if dummy { 1 } else { 0 }
+}
+
+// What an access of a value does to the lent buffer: only a read's reply is stored.
+pub fn store(buffer: &mut [u8], job: Job, place: Place, wire: Wire, value: u32)
+    ensures stored { λ r. ⌜ now (buffer .exit) ≡ stored job place wire value (now (buffer .entry)) ⌝ }
+{
+    let reading = job.reading;
+    let stage = place.stage;
+    let phase = wire.phase;
+    if is_taking(phase) {
+        if is_reading(stage) {
+            if 4 <= wire.read_index {
+                store_reply(
+                    buffer,
+                    place,
+                    dummy_bytes(reading.dummy),
+                    wire.read_index - 4,
+                    value,
+                );
+            }
+        }
+    }
+}

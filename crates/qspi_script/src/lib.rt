@@ -1,0 +1,544 @@
+// Which transfer comes next: the calls of the flash chip as a script of stages, after the functions of
+// the Rust file `zedboard-bsp/src/qspi_spansion.rs`. A stage is one transfer.
+ghost use mathlib.Core.Path.{_≡_};
+ghost use Prim.Native.Nat.{_≤_};
+ghost use Rattle.qspi_script.specs.Stages.{numberOf, oneWord, readWords, readFrame, registersFrame, frameOf, chunkAddress, readWord, firstWord, dataWord, furtherWord, dueWord};
+ghost use Rattle.qspi_script.specs.Turns.{statusOf, begin, finish, withRegisters, nextChunk, readOn, failed, polled, configured, protecting, statusRead, configRead, turnOf};
+use qspi_transfer::Frame;
+use qspi_transfer::low_level::Sequence;
+use zedboard_bsp::qspi_spansion::RegisterId;
+use zedboard_bsp::qspi_spansion::StatusRegister1;
+use zedboard_bsp::qspi_spansion::registers;
+use zedboard_bsp::qspi_spansion::words;
+use zynq7000::qspi;
+
+// What a transfer is for. `Poll` reads the status after program or erase; `Registers` sends nothing;
+// `End` is no transfer.
+pub enum Stage {
+    Enable,
+    Disable,
+    Clear,
+    ReadStatus,
+    ReadConfig,
+    WriteStatus,
+    WriteRegisters,
+    ReadId,
+    ReadLongId,
+    Erase,
+    Program,
+    Poll,
+    Read,
+    Registers,
+    End,
+}
+
+// How a call stands: going on, done, or ended by a refusal of document 01. `LentLengthChanged` is
+// answered by a step and ends nothing.
+pub enum Status {
+    Going,
+    Done,
+    OutOfRange,
+    Alignment,
+    DataTooLarge,
+    NotAligned,
+    CrossesPageBoundary,
+    AddressSpan,
+    FieldTooWide,
+    EraseErrorBitSet,
+    ProgrammingErrorBitSet,
+    RepliesEnded,
+    LogFull,
+    LentLengthChanged,
+}
+
+impl Status {
+    // Document 01's number; 0 for done and while going on.
+    pub fn number(self) -> u32
+        ensures number { λ r. ⌜ r ≡ numberOf self ⌝ }
+    {
+        match self {
+            Status::Going => 0,
+            Status::Done => 0,
+            Status::OutOfRange => 1,
+            Status::Alignment => 2,
+            Status::DataTooLarge => 3,
+            Status::NotAligned => 4,
+            Status::CrossesPageBoundary => 5,
+            Status::AddressSpan => 10,
+            Status::FieldTooWide => 12,
+            Status::EraseErrorBitSet => 21,
+            Status::ProgrammingErrorBitSet => 22,
+            Status::RepliesEnded => 23,
+            Status::LogFull => 24,
+            Status::LentLengthChanged => 25,
+        }
+    }
+}
+
+// What status and config are read for: the answer, `new`, or `set_write_protection`.
+pub enum Purpose {
+    Answer,
+    Configure,
+    Protect,
+}
+
+// What comes after what, where calls differ. `erasing` picks the error bit.
+pub struct Script {
+    pub after_enable: Stage,
+    pub after_clear: Stage,
+    pub after_disable: Status,
+    pub erasing: bool,
+    pub purpose: Purpose,
+}
+
+// The lengths of the memory that the call was lent at its start.
+pub struct Lent {
+    pub data: usize,
+    pub buffer: usize,
+    pub log: usize,
+}
+
+// What `new` and `set_write_protection` are asked for.
+pub struct Wanted {
+    pub quad: bool,
+    pub set_latency: bool,
+    pub latency: u8,
+    pub clear: bool,
+    pub protection: u8,
+}
+
+// A read: the fast command, and a dummy byte before the data.
+pub struct Reading {
+    pub fast: bool,
+    pub dummy: bool,
+}
+
+// A call that sends nothing, and the word that it writes.
+pub struct LowLevel {
+    pub sequence: Sequence,
+    pub word: u32,
+}
+
+// A call as it was asked for; steps do not change it.
+pub struct Job {
+    pub lent: Lent,
+    pub script: Script,
+    pub addr: u32,
+    pub reading: Reading,
+    pub wanted: Wanted,
+    pub low_level: LowLevel,
+}
+
+// Where a call stands: its stage, the bytes done, the bytes of the chunk at hand, and the two register
+// bytes at hand.
+pub struct Place {
+    pub stage: Stage,
+    pub done: usize,
+    pub chunk: u8,
+    pub sr: u8,
+    pub cr: u8,
+}
+
+pub struct Turned {
+    pub place: Place,
+    pub status: Status,
+}
+
+// One word out, one reply in, after one status read.
+fn one_word(port: u8) -> Frame
+    ensures frame { λ r. ⌜ r ≡ oneWord port ⌝ }
+{
+    Frame {
+        port,
+        words: 0,
+        bytes: 4,
+        twice: false,
+    }
+}
+
+// How many zero words a read sends after its command.
+fn read_words(chunk: u8, dummy: bool) -> u32
+    ensures count { λ r. ⌜ (r ≡ readWords chunk dummy) × (r ≤ 65) ⌝ }
+{
+    if dummy {
+        return (chunk as u32 + 4) / 4;
+    }
+    (chunk as u32 + 3) / 4
+}
+
+// One reply more than zero words: the reply to the command word.
+fn read_frame(chunk: u8, dummy: bool) -> Frame
+    ensures frame { λ r. ⌜ r ≡ readFrame chunk dummy ⌝ }
+{
+    let words = read_words(chunk, dummy);
+    Frame {
+        port: qspi::TX_DATA_00,
+        words,
+        bytes: words * 4 + 4,
+        twice: true,
+    }
+}
+
+// No word and no reply: only the count of accesses.
+fn registers_frame(job: Job) -> Frame
+    ensures frame { λ r. ⌜ r ≡ registersFrame job ⌝ }
+{
+    let low_level = job.low_level;
+    let sequence = low_level.sequence;
+    let words = sequence.more();
+    Frame {
+        port: qspi::CONFIG,
+        words,
+        bytes: 0,
+        twice: false,
+    }
+}
+
+// The size of a stage's transfer.
+pub fn frame(job: Job, place: Place) -> Frame
+    ensures frame { λ r. ⌜ r ≡ frameOf job place ⌝ }
+{
+    let stage = place.stage;
+    let chunk = place.chunk;
+    let reading = job.reading;
+    let dummy = reading.dummy;
+    match stage {
+        Stage::Enable => one_word(qspi::TX_DATA_01),
+        Stage::Disable => one_word(qspi::TX_DATA_01),
+        Stage::Clear => one_word(qspi::TX_DATA_01),
+        Stage::ReadStatus => one_word(qspi::TX_DATA_10),
+        Stage::ReadConfig => one_word(qspi::TX_DATA_10),
+        Stage::WriteStatus => one_word(qspi::TX_DATA_10),
+        Stage::WriteRegisters => one_word(qspi::TX_DATA_11),
+        Stage::ReadId => one_word(qspi::TX_DATA_00),
+        Stage::ReadLongId => Frame {
+            port: qspi::TX_DATA_00,
+            words: 2,
+            bytes: 12,
+            twice: false,
+        },
+        Stage::Erase => one_word(qspi::TX_DATA_00),
+        Stage::Program => Frame {
+            port: qspi::TX_DATA_00,
+            words: chunk as u32 / 4,
+            bytes: chunk as u32,
+            twice: true,
+        },
+        Stage::Poll => one_word(qspi::TX_DATA_10),
+        Stage::Read => read_frame(chunk, dummy),
+        Stage::Registers => registers_frame(job),
+        Stage::End => one_word(qspi::TX_DATA_01),
+    }
+}
+
+// Where the chunk at hand begins.
+fn chunk_address(job: Job, place: Place) -> u32
+    ensures address { λ r. ⌜ r ≡ chunkAddress job place ⌝ }
+{
+    std::num::wrapping_add_u32(job.addr, (place.done % 0x1_0000_0000) as u32)
+}
+
+fn read_word(job: Job, place: Place) -> u32
+    ensures word { λ r. ⌜ r ≡ readWord job place ⌝ }
+{
+    let reading = job.reading;
+    let addr = chunk_address(job, place);
+    if reading.fast {
+        words::command_word(RegisterId::FastRead, addr)
+    } else {
+        words::command_word(RegisterId::Read, addr)
+    }
+}
+
+// The command word of a stage.
+fn first_word(job: Job, place: Place) -> u32
+    ensures word { λ r. ⌜ r ≡ firstWord job place ⌝ }
+{
+    let stage = place.stage;
+    let sr = place.sr;
+    let cr = place.cr;
+    let addr = job.addr;
+    match stage {
+        Stage::Enable => words::command_only(RegisterId::WriteEnable),
+        Stage::Disable => words::command_only(RegisterId::WriteDisable),
+        Stage::Clear => words::command_only(RegisterId::ClearStatus),
+        Stage::ReadStatus => words::command_only(RegisterId::ReadStatus1),
+        Stage::ReadConfig => words::command_only(RegisterId::ReadConfig),
+        Stage::WriteStatus => words::write_status_word(sr),
+        Stage::WriteRegisters => words::write_registers_word(sr, cr),
+        Stage::ReadId => words::command_only(RegisterId::ReadId),
+        Stage::ReadLongId => words::command_only(RegisterId::ReadId),
+        Stage::Erase => words::command_word(RegisterId::SectorErase, addr),
+        Stage::Program => words::command_word(RegisterId::PageProgram, chunk_address(job, place)),
+        Stage::Poll => words::command_only(RegisterId::ReadStatus1),
+        Stage::Read => read_word(job, place),
+        Stage::Registers => 0,
+        Stage::End => 0,
+    }
+}
+
+// Four bytes of the data, low byte first; past its end 0.
+fn data_word(data: &[u8], at: usize) -> u32
+    ensures word { λ r. ⌜ r ≡ dataWord (now («data» .entry)) at ⌝ }
+{
+    if data.len() < 4 {
+        return 0;
+    }
+    if at <= data.len() - 4 {
+        words::data_word(data[at], data[at + 1], data[at + 2], data[at + 3])
+    } else {
+        0
+    }
+}
+
+// The words after the first: `program` sends its data, the long id and the reads send zeros.
+fn further_word(place: Place, index: u32, data: &[u8]) -> u32
+    ensures word { λ r. ⌜ r ≡ furtherWord place index (now («data» .entry)) ⌝ }
+{
+    let stage = place.stage;
+    let at = std::num::wrapping_add_usize(place.done, index as usize * 4);
+    match stage {
+        Stage::Enable => 0,
+        Stage::Disable => 0,
+        Stage::Clear => 0,
+        Stage::ReadStatus => 0,
+        Stage::ReadConfig => 0,
+        Stage::WriteStatus => 0,
+        Stage::WriteRegisters => 0,
+        Stage::ReadId => 0,
+        Stage::ReadLongId => 0,
+        Stage::Erase => 0,
+        Stage::Program => data_word(data, at),
+        Stage::Poll => 0,
+        Stage::Read => 0,
+        Stage::Registers => 0,
+        Stage::End => 0,
+    }
+}
+
+// The word that is sent after so many others.
+pub fn due_word(job: Job, place: Place, sent: u32, data: &[u8]) -> u32
+    ensures word { λ r. ⌜ r ≡ dueWord job place sent (now («data» .entry)) ⌝ }
+{
+    if sent == 0 {
+        first_word(job, place)
+    } else {
+        further_word(place, sent - 1, data)
+    }
+}
+
+// A stage that is a transfer goes on; the end is done.
+fn status_of(stage: Stage) -> Status
+    ensures status { λ r. ⌜ r ≡ statusOf stage ⌝ }
+{
+    match stage {
+        Stage::Enable => Status::Going,
+        Stage::Disable => Status::Going,
+        Stage::Clear => Status::Going,
+        Stage::ReadStatus => Status::Going,
+        Stage::ReadConfig => Status::Going,
+        Stage::WriteStatus => Status::Going,
+        Stage::WriteRegisters => Status::Going,
+        Stage::ReadId => Status::Going,
+        Stage::ReadLongId => Status::Going,
+        Stage::Erase => Status::Going,
+        Stage::Program => Status::Going,
+        Stage::Poll => Status::Going,
+        Stage::Read => Status::Going,
+        Stage::Registers => Status::Going,
+        Stage::End => Status::Done,
+    }
+}
+
+// The next stage, with what the place holds.
+pub fn begun(place: Place, stage: Stage) -> Turned
+    ensures turned { λ r. ⌜ r ≡ begin place stage ⌝ }
+{
+    let status = status_of(stage);
+    let place = Place {
+        stage,
+        done: place.done,
+        chunk: place.chunk,
+        sr: place.sr,
+        cr: place.cr,
+    };
+    Turned { place, status }
+}
+
+// No stage comes after this one.
+pub fn ended(place: Place, status: Status) -> Turned
+    ensures turned { λ r. ⌜ r ≡ finish place status ⌝ }
+{
+    let place = Place {
+        stage: Stage::End,
+        done: place.done,
+        chunk: place.chunk,
+        sr: place.sr,
+        cr: place.cr,
+    };
+    Turned { place, status }
+}
+
+fn with_registers(place: Place, sr: u8, cr: u8) -> Place
+    ensures place { λ r. ⌜ r ≡ withRegisters place sr cr ⌝ }
+{
+    let stage = place.stage;
+    Place {
+        stage,
+        done: place.done,
+        chunk: place.chunk,
+        sr,
+        cr,
+    }
+}
+
+// How many bytes the next chunk of a read has: what is left, but at most 248, 247 with a dummy byte.
+pub fn next_chunk(length: usize, done: usize, dummy: bool) -> u8
+    ensures chunk { λ r. ⌜ r ≡ nextChunk length done dummy ⌝ }
+{
+    if length <= done {
+        return 0;
+    }
+    if dummy {
+        if length - done < 247 {
+            return (length - done) as u8;
+        }
+        return 247;
+    }
+    if length - done < 248 {
+        return (length - done) as u8;
+    }
+    248
+}
+
+// A chunk of a read is done: the next one, or the end.
+fn read_on(job: Job, place: Place) -> Turned
+    ensures turned { λ r. ⌜ r ≡ readOn job place ⌝ }
+{
+    let lent = job.lent;
+    let reading = job.reading;
+    let done = std::num::wrapping_add_usize(place.done, place.chunk as usize);
+    let chunk = next_chunk(lent.buffer, done, reading.dummy);
+    let next = Place {
+        stage: Stage::Read,
+        done,
+        chunk,
+        sr: place.sr,
+        cr: place.cr,
+    };
+    if chunk == 0 {
+        ended(next, Status::Done)
+    } else {
+        begun(next, Stage::Read)
+    }
+}
+
+// Whether the status byte shows the error bit of the work at hand.
+fn has_failed(script: Script, status: u8) -> bool
+    ensures bit { λ r. ⌜ r ≡ failed script status ⌝ }
+{
+    if script.erasing {
+        StatusRegister1(status).erase_error()
+    } else {
+        StatusRegister1(status).programming_error()
+    }
+}
+
+// The status after program or erase: the error bit first, then bit 0.
+fn poll_end(job: Job, place: Place, status: u8) -> Turned
+    ensures turned { λ r. ⌜ r ≡ polled job place status ⌝ }
+{
+    let script = job.script;
+    if has_failed(script, status) {
+        return begun(place, Stage::Clear);
+    }
+    if StatusRegister1(status).write_in_progress() {
+        return begun(place, Stage::Poll);
+    }
+    ended(place, Status::Done)
+}
+
+// `new` has read both registers: it writes them where something asked for is not so yet.
+fn configure(wanted: Wanted, place: Place, sr: u8) -> Turned
+    ensures turned { λ r. ⌜ r ≡ configured wanted place sr ⌝ }
+{
+    let quad = wanted.quad;
+    let set_latency = wanted.set_latency;
+    let latency = wanted.latency;
+    let clear = wanted.clear;
+    let cr = place.cr;
+    if registers::update_needed(quad, set_latency, latency, clear, cr, sr) {
+        let next = with_registers(
+            place,
+            registers::configured_sr(clear, sr),
+            registers::configured_cr(quad, set_latency, latency, cr),
+        );
+        begun(next, Stage::Enable)
+    } else {
+        ended(place, Status::Done)
+    }
+}
+
+fn protect(wanted: Wanted, place: Place, sr: u8) -> Turned
+    ensures turned { λ r. ⌜ r ≡ protecting wanted place sr ⌝ }
+{
+    let cr = place.cr;
+    let next = with_registers(place, registers::protected(sr, wanted.protection), cr);
+    begun(next, Stage::ReadConfig)
+}
+
+// The status was read.
+fn status_read(job: Job, place: Place, sr: u8) -> Turned
+    ensures turned { λ r. ⌜ r ≡ statusRead job place sr ⌝ }
+{
+    let script = job.script;
+    let purpose = script.purpose;
+    let wanted = job.wanted;
+    match purpose {
+        Purpose::Answer => ended(place, Status::Done),
+        Purpose::Configure => configure(wanted, place, sr),
+        Purpose::Protect => protect(wanted, place, sr),
+    }
+}
+
+// The config register was read.
+fn config_read(job: Job, place: Place, cr: u8) -> Turned
+    ensures turned { λ r. ⌜ r ≡ configRead job place cr ⌝ }
+{
+    let script = job.script;
+    let purpose = script.purpose;
+    let sr = place.sr;
+    match purpose {
+        Purpose::Answer => ended(place, Status::Done),
+        Purpose::Configure => begun(with_registers(place, sr, cr), Stage::ReadStatus),
+        Purpose::Protect => begun(with_registers(place, sr, cr), Stage::Enable),
+    }
+}
+
+// A transfer is over; `reply` is the last one taken.
+pub fn turn(job: Job, place: Place, reply: u32) -> Turned
+    ensures turned { λ r. ⌜ r ≡ turnOf job place reply ⌝ }
+{
+    let stage = place.stage;
+    let script = job.script;
+    let after_enable = script.after_enable;
+    let after_clear = script.after_clear;
+    let after_disable = script.after_disable;
+    match stage {
+        Stage::Enable => begun(place, after_enable),
+        Stage::Disable => ended(place, after_disable),
+        Stage::Clear => begun(place, after_clear),
+        Stage::ReadStatus => status_read(job, place, words::top_byte(reply)),
+        Stage::ReadConfig => config_read(job, place, words::top_byte(reply)),
+        Stage::WriteStatus => ended(place, Status::Done),
+        Stage::WriteRegisters => ended(place, Status::Done),
+        Stage::ReadId => ended(place, Status::Done),
+        Stage::ReadLongId => ended(place, Status::Done),
+        Stage::Erase => begun(place, Stage::Poll),
+        Stage::Program => begun(place, Stage::Poll),
+        Stage::Poll => poll_end(job, place, words::top_byte(reply)),
+        Stage::Read => read_on(job, place),
+        Stage::Registers => ended(place, Status::Done),
+        Stage::End => ended(place, Status::Done),
+    }
+}

@@ -1,0 +1,4 @@
+pub mod DeviceIdLaws
+pub mod FieldLaws
+pub mod RegisterLaws
+pub mod WireBytes
