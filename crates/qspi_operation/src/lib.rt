@@ -6,17 +6,14 @@ ghost use lib.Dec.{leb};
 ghost use lib.ListN.{length};
 ghost use Rattle.qspi_operation.specs.Step.{isGoing, registerAccess, sendAccess, turnedOn, wentOn, accessOf, shown, dueOf, answered, sameLengths, going, verdictOf, stopped, counted, moved, written, replyOf, stepOf, logOf, bufferOf};
 ghost use Rattle.qspi_operation.specs.Run.{runOf, Ran};
-use crate::store;
 use qspi_script::Job;
 use qspi_script::Place;
 use qspi_script::Status;
-use qspi_script;
 use qspi_transfer::Due;
 use qspi_transfer::Moved;
 use qspi_transfer::Phase;
 use qspi_transfer::Wire;
 use qspi_transfer::low_level;
-use qspi_transfer;
 use zynq7000::bits;
 use zynq7000::qspi;
 use zynq7000::qspi::Config;
@@ -137,8 +134,8 @@ fn access(job: Job, place: Place, wire: Wire, data: &[u8]) -> Due
     }
 }
 
-fn asked(due: Due) -> Asked
-    ensures asked { λ r. ⌜ r ≡ shown due ⌝ }
+fn show(due: Due) -> Asked
+    ensures shown { λ r. ⌜ r ≡ shown due ⌝ }
 {
     match due {
         Due::Read(offset) => Asked::Read(offset),
@@ -157,7 +154,7 @@ pub fn due(op: Op, data: &[u8]) -> Asked
     let lent = job.lent;
     if is_going(status) {
         if data.len() == lent.data {
-            asked(access(job, place, wire, data))
+            show(access(job, place, wire, data))
         } else {
             Asked::LentLengthChanged
         }
