@@ -71,7 +71,7 @@ reply-kept buffer p d i w =
     let b₃ = storeByte b₂ p d (i + 2) (w / 65536 % 256) in
     byte-kept b₃ p d (i + 3) (w / 16777216 % 256) ∙ byte-kept b₂ p d (i + 2) (w / 65536 % 256) ∙ byte-kept b₁ p d (i + 1) (w / 256 % 256) ∙ byte-kept buffer p d i (w % 256)
 
-stored-kept : (job : Job) (p : Place) (w : Wire) (v : ℕ) (buffer : List ℕ) → length (stored job p w v buffer) ≡ length buffer
+pub stored-kept : (job : Job) (p : Place) (w : Wire) (v : ℕ) (buffer : List ℕ) → length (stored job p w v buffer) ≡ length buffer
 stored-kept job p w v buffer =
     when-kept (isTaking (w .phase)) _ buffer
     (when-kept (isReading (p .stage)) _ buffer (when-kept (leb 4 (w .«read_index»)) _ buffer (reply-kept buffer p (skipped (job .reading .dummy)) (w .«read_index» - 4) v) refl) refl)

@@ -1,0 +1,196 @@
+-- A call over lists, to be read beside document 01's "One transfer, access by access": what a call does is a list of actions, and what it
+-- does after them is decided by the replies. Nothing here counts words or bytes; proofs/Tied shows that the steps of the code do the same.
+use Prim.Native.Nat.{ℕ, zero, suc}
+use mathlib.Core.Bool.{Bool, true, false, cond}
+use mathlib.Core.List.{List, [], _∷_, _++_, map, reverse}
+use lib.ListN.{length, drop}
+
+use Rattle.zynq7000.specs.declared.qspi.Access.{Access}
+use Rattle.zynq7000.specs.declared.qspi.Access.the-variants as access
+use Rattle.qspi_transfer.specs.Wire.{waits}
+use Rattle.qspi_transfer.specs.LowLevel.{chipSelectHigh, chipSelectLow, started}
+use Rattle.qspi_script.specs.declared.Status.{Status}
+use Rattle.qspi_script.specs.declared.Status.the-variants.{Going, RepliesEnded, LogFull}
+
+-- ---- actions
+
+pub data Action : Type 0 where
+  write : ℕ → ℕ → Action  -- a value to an offset
+  modify : (ℕ → ℕ) → Action  -- "`modify_config` is one read of 00 and one write of 00"
+  drain : Action  -- "read 04 and, while bit 4 is set, read 20 and then 04 again"
+  reply : Bool → Action  -- a reply, after one status read with bit 4 set, or after two in a row
+
+-- where an action stands
+pub data Midway : Type 0 where
+  first : Midway  -- at its beginning, or again at the status read
+  full : Midway  -- a word waits, to be read and dropped
+  changed : ℕ → Midway  -- config was read; the word to write
+  again : Midway  -- the second status read
+  ready : Midway  -- the reply can be taken
+
+-- what is due: a read of an offset, a write of a value to one, or nothing
+pub data Want : Type 0 where
+  reads : ℕ → Want
+  writes : ℕ → ℕ → Want
+  nothing : Want
+
+abbrev pub wantAt : Midway → Action → Want
+wantAt first (write o v) = writes o v
+wantAt first (modify f) = reads 0x00
+wantAt first drain = reads 0x04
+wantAt first (reply twice) = reads 0x04
+wantAt full a = reads 0x20
+wantAt (changed w) a = writes 0x00 w
+wantAt again a = reads 0x04
+wantAt ready a = reads 0x20
+
+-- an access was made: the action goes on, or it is over, or it is over with a reply
+pub data Progress : Type 0 where
+  stays : Midway → Progress
+  over : Progress
+  takes : ℕ → Progress
+
+abbrev pub progress : Midway → Action → ℕ → Progress
+progress first (write o v) x = over
+progress first (modify f) x = stays (changed (f x))
+progress first drain x = cond (waits x) (stays full) over
+progress first (reply twice) x = cond (waits x) (stays (cond twice again ready)) (stays first)
+progress full a x = stays first
+progress (changed w) a x = over
+progress again a x = cond (waits x) (stays ready) (stays first)
+progress ready a x = takes x
+
+-- ---- a transfer
+
+pub record Transfer : Type 0 where
+  pub port : ℕ  -- the offset of its TX register
+  pub command : ℕ  -- the command word
+  pub further : List ℕ  -- the words after it
+  pub replies : ℕ  -- how many replies it takes
+  pub twice : Bool  -- each after two status reads in a row
+
+abbrev pub replicate : ℕ → Action → List Action
+replicate zero a = []
+replicate (suc n) a = a ∷ replicate n a
+
+-- "Closing: set bit 10; write 0 to 14."
+abbrev pub closing : List Action
+closing = modify chipSelectHigh ∷ write 0x14 0 ∷ []
+
+-- "Start: set bit 16.", and the replies
+abbrev pub replying : Transfer → List Action
+replying x = modify started ∷ replicate (x .replies) (reply (x .twice)) ++ closing
+
+-- "clear bit 10 of config; write 1 to 14", and the words
+abbrev pub opening : Transfer → List Action
+opening x = modify chipSelectLow ∷ write 0x14 1 ∷ map (write (x .port)) (x .command ∷ x .further) ++ replying x
+
+-- ---- a call
+
+pub data Script : Type 0 where
+  -- the call ends with a status and the values of its answer
+  ends : Status → List ℕ → Script
+  -- actions, the bytes that their replies bring for the lent buffer, and what the replies decide
+  perform : Action → List Action → (List ℕ → List ℕ) → (List ℕ → Script) → Script
+  -- the same actions again while their replies say so
+  repeats : Action → List Action → (List ℕ → Bool) → (List ℕ → Script) → Script
+
+abbrev pub none : List ℕ → List ℕ
+none rs = []
+
+-- a transfer, from its opening: "read 04 and, while bit 4 is set, .."
+abbrev pub exchange : Transfer → (List ℕ → Script) → Script
+exchange x k = perform drain (opening x) none k
+
+pub data State : Type 0 where
+  -- where the action at hand stands, the actions left, the replies taken of them (the newest first), what they bring, what comes then,
+  -- and the bytes brought before
+  going : Midway → Action → List Action → List ℕ → (List ℕ → List ℕ) → (List ℕ → Script) → List ℕ → State
+  ended : Status → List ℕ → List ℕ → State  -- status, values, bytes brought
+
+abbrev pub onward : Bool → Script → Script → Script
+onward true s t = s
+onward false s t = t
+
+abbrev pub begin : Script → List ℕ → State
+begin (ends a vs) bs = ended a vs bs
+begin (perform a l brings k) bs = going first a l [] brings k bs
+begin (repeats a l still k) bs = going first a l [] none (λ rs. onward (still rs) (repeats a l still k) (k rs)) bs
+
+abbrev pub proceed : List Action → List ℕ → (List ℕ → List ℕ) → (List ℕ → Script) → List ℕ → State
+proceed [] taken brings k bs = begin (k (reverse taken)) (bs ++ brings (reverse taken))
+proceed (a ∷ l) taken brings k bs = going first a l taken brings k bs
+
+abbrev pub moves : Progress → Action → List Action → List ℕ → (List ℕ → List ℕ) → (List ℕ → Script) → List ℕ → State
+moves (stays m) a l taken brings k bs = going m a l taken brings k bs
+moves over a l taken brings k bs = proceed l taken brings k bs
+moves (takes v) a l taken brings k bs = proceed l (v ∷ taken) brings k bs
+
+abbrev pub want : State → Want
+want (going m a l taken brings k bs) = wantAt m a
+want (ended a vs bs) = nothing
+
+-- the call after an access of a value
+abbrev pub next : State → ℕ → State
+next (going m a l taken brings k bs) v = moves (progress m a v) a l taken brings k bs
+next (ended a vs bs) v = ended a vs bs
+
+abbrev pub statusIn : State → Status
+statusIn (going m a l taken brings k bs) = Going
+statusIn (ended a vs bs) = a
+
+abbrev pub valuesIn : State → List ℕ
+valuesIn (going m a l taken brings k bs) = []
+valuesIn (ended a vs bs) = vs
+
+-- the bytes brought for the lent buffer
+abbrev pub bytesIn : State → List ℕ
+bytesIn (going m a l taken brings k bs) = bs ++ brings (reverse taken)
+bytesIn (ended a vs bs) = bs
+
+-- ---- a run
+
+pub record Result : Type 0 where
+  pub log : List Access
+  pub answer : Status
+  pub state : State  -- where the call stands
+  pub room : ℕ  -- for how many accesses there is room left
+  pub unread : List ℕ  -- the replies left
+
+abbrev pub halt : Status → State → ℕ → List ℕ → Result
+halt a s n rs = record { log = []; answer = a; state = s; room = n; unread = rs }
+
+abbrev pub logging : Access → Result → Result
+logging a r = record { log = a ∷ r .log; answer = r .answer; state = r .state; room = r .room; unread = r .unread }
+
+-- 24 where an access is due and there is no room
+abbrev pub noRoom : Want → State → List ℕ → Result
+noRoom nothing s rs = halt (statusIn s) s 0 rs
+noRoom (reads o) s rs = halt LogFull s 0 rs
+noRoom (writes o v) s rs = halt LogFull s 0 rs
+
+-- 23 where a read is due and there is no reply
+abbrev pub made : Want → State → ℕ → List ℕ → (State → List ℕ → Result) → Result
+made nothing s n rs run = halt (statusIn s) s (suc n) rs
+made (reads o) s n [] run = halt RepliesEnded s (suc n) []
+made (reads o) s n (v ∷ rs) run = logging (access.Read o v) (run (next s v) rs)
+made (writes o v) s n rs run = logging (access.Write o v) (run (next s v) rs)
+
+-- with room for so many accesses, over these replies
+unfoldable pub runs : ℕ → State → List ℕ → Result
+runs zero s rs = noRoom (want s) s rs
+runs (suc n) s rs = made (want s) s n rs (runs n)
+
+-- a call from its start
+abbrev pub called : Script → ℕ → List ℕ → Result
+called c n rs = runs n (begin c []) rs
+
+-- the lent buffer after it: the bytes brought, then what was there
+abbrev pub overlaid : List ℕ → List ℕ → List ℕ
+overlaid bs old = bs ++ drop (length bs) old
+
+-- how many of the accesses are reads, each of which used a reply
+unfoldable pub readsOf : List Access → ℕ
+readsOf [] = 0
+readsOf (access.Read o v ∷ l) = suc (readsOf l)
+readsOf (access.Write o v ∷ l) = readsOf l
