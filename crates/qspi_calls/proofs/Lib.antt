@@ -1,3 +1,4 @@
 pub mod Outcome
 pub mod Tied
 pub mod Phases
+pub mod Scripted

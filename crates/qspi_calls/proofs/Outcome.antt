@@ -9,10 +9,11 @@ use lib.Seq.{sets}
 use Rattle.zynq7000.specs.Access.{encode, firstWord, valueWord}
 use Rattle.zynq7000.specs.declared.qspi.Access.{Access}
 use Rattle.zynq7000.specs.declared.qspi.Access.the-variants as access
+use Rattle.qspi_transfer.specs.declared.Wire.{Wire}
 use Rattle.qspi_script.specs.declared.Status.{Status}
 use Rattle.qspi_operation.specs.Run.{Run}
 use Rattle.qspi_operation.specs.Step.{written}
-use Rattle.qspi_calls.specs.Machine.{Want, reads, writes, nothing, State, want, next, Result, halt, logging, noRoom, made, runs, bytesIn, overlaid, readsOf}
+use Rattle.qspi_calls.specs.Machine.{Want, reads, writes, nothing, State, want, next, Result, halt, logging, noRoom, made, runs, valuesIn, bytesIn, overlaid, readsOf}
 
 pub length-encode : (l : List Access) → length (encode l) ≡ 2 * length l
 unfolding encode
@@ -44,11 +45,12 @@ two log u x y ws =
     rw (e, f)
 
 -- a run of the code from u used words and i used replies does what a result says
-pub record Outcome (e : Run) (log buffer₀ : List ℕ) (u i : ℕ) (r : Result) : Type 0 where
+pub record Outcome (Values : Status → Wire → List ℕ) (e : Run) (log buffer₀ : List ℕ) (u i : ℕ) (r : Result) : Type 0 where
   pub answer : e .answer ≡ r .answer
   pub used : e .op .used ≡ u + 2 * length (r .log)
   pub replies : e .op .replies ≡ i + readsOf (r .log)
   pub logged : e .log ≡ sets log u (encode (r .log))
+  pub values : valuesIn (r .state) ≡ Values (e .answer) (e .op .wire)
   pub stored : e .buffer ≡ overlaid (bytesIn (r .state)) buffer₀
 
 abbrev pub isRead : Access → ℕ
@@ -61,13 +63,14 @@ reads-more (access.Read o v) l = omega arith
 reads-more (access.Write o v) l = omega arith
 
 -- one access more, in front
-pub more : (a : Access) (e : Run) (log buffer₀ : List ℕ) (u i j : ℕ) (r : Result) → j ≡ i + isRead a
-    → Outcome e (written log u (firstWord a) (valueWord a)) buffer₀ (u + 2) j r → Outcome e log buffer₀ u i (logging a r)
+pub more : (Values : Status → Wire → List ℕ) (a : Access) (e : Run) (log buffer₀ : List ℕ) (u i j : ℕ) (r : Result) → j ≡ i + isRead a
+    → Outcome Values e (written log u (firstWord a) (valueWord a)) buffer₀ (u + 2) j r → Outcome Values e log buffer₀ u i (logging a r)
 unfolding encode
-more a e log buffer₀ u i j r h o = record {
+more Values a e log buffer₀ u i j r h o = record {
   answer = o .answer;
   used = omega (arith, o .used);
   replies = omega (arith, o .replies, reads-more a (r .log));
   logged = o .logged ∙ two log u (firstWord a) (valueWord a) (encode (r .log));
+  values = o .values;
   stored = o .stored;
 }

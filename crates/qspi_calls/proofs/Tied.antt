@@ -33,7 +33,7 @@ use Rattle.qspi_operation.specs.Step.{isGoing, accessOf, answered, sameLengths,
 use Rattle.qspi_operation.specs.Run.{Run, here, runAt, fuel}
 use Rattle.qspi_operation.proofs.Verdicts.{no}
 use Rattle.qspi_operation.proofs.Runs.{stored-kept}
-use Rattle.qspi_calls.specs.Machine.{Want, reads, writes, nothing, State, going, ended, want, next, statusIn, bytesIn, Result, halt, logging, noRoom, made, runs, overlaid, readsOf}
+use Rattle.qspi_calls.specs.Machine.{Want, reads, writes, nothing, State, going, ended, want, next, statusIn, valuesIn, bytesIn, Result, halt, logging, noRoom, made, runs, overlaid, readsOf}
 use Rattle.qspi_calls.proofs.Outcome.{Outcome, isRead, more}
 
 -- the access of what is due
@@ -47,11 +47,13 @@ abbrev pub after : Job → Place → Wire → ℕ → Op
 after job p w v = moved (record { job = job; place = p; wire = w; used = 0; replies = 0; status = Going }) 0 0 v .op
 
 -- the two together: place, wire and status by counters, and a state over lists
-pub record Tie (job : Job) (bytes buffer₀ : List ℕ) (Rel : Place → Wire → Status → State → Type 0) : Type 0 where
+pub record Tie (job : Job) (bytes buffer₀ : List ℕ) (Values : Status → Wire → List ℕ) (Rel : Place → Wire → Status → State → Type 0) : Type 0 where
   pub due : (p : Place) (w : Wire) (s : State) → Rel p w Going s → accessOf job p w bytes ≡ asked (want s)
   pub some : (p : Place) (w : Wire) (s : State) → Rel p w Going s → want s ≡ nothing → ⊥
   pub steps : (p : Place) (w : Wire) (s : State) (v : ℕ) → Rel p w Going s → Rel (after job p w v .place) (after job p w v .wire) (after job p w v .status) (next s v)
   pub over : (p : Place) (w : Wire) (a : Status) (s : State) → Rel p w a s → isGoing a ≡ false → (want s ≡ nothing) × (a ≡ statusIn s)
+  pub values : (p : Place) (w : Wire) (a : Status) (s : State) → Rel p w a s → isGoing a ≡ false → valuesIn s ≡ Values a w
+  pub no-values : (w : Wire) → (Values RepliesEnded w ≡ []) × (Values LogFull w ≡ [])
   pub keeps : (p : Place) (w : Wire) (s : State) (v : ℕ) → Rel p w Going s → stored job p w v (overlaid (bytesIn s) buffer₀) ≡ overlaid (bytesIn (next s v)) buffer₀
 
 pub going-is : (a : Status) → isGoing a ≡ true → a ≡ Going
@@ -70,7 +72,7 @@ going-is RepliesEnded h = no h
 going-is LogFull h = no h
 going-is LentLengthChanged h = no h
 
-module _ (job : Job) (bytes rs buffer₀ : List ℕ) (same : length bytes ≡ job .lent .«data») (fits : length rs < 2 ^ 64) {Rel : Place → Wire → Status → State → Type 0} (t : Tie job bytes buffer₀ Rel) where
+module _ (job : Job) (bytes rs buffer₀ : List ℕ) (same : length bytes ≡ job .lent .«data») (fits : length rs < 2 ^ 64) (Values : Status → Wire → List ℕ) {Rel : Place → Wire → Status → State → Type 0} (t : Tie job bytes buffer₀ Values Rel) where
   abbrev pub op : Place → Wire → ℕ → ℕ → Status → Op
   op p w u i a = record { job = job; place = p; wire = w; used = u; replies = i; status = a }
 
@@ -105,24 +107,32 @@ module _ (job : Job) (bytes rs buffer₀ : List ℕ) (same : length bytes ≡ jo
   unroll v n o buffer log e = ap (λ (z : Verdict). runAt n (isGoing (act z o .answer)) (act z o .answer) (act z o .op) bytes rs (taken z o buffer) (noted z (o .used) log)) e
 
   abbrev pub Goal : ℕ → ℕ → ℕ → List ℕ → List ℕ → Place → Wire → Status → Result → Type 0
-  Goal k u i log buffer p w a r = Outcome (runAt (suc k) (isGoing a) a (op p w u i a) bytes rs buffer log) log buffer₀ u i r
+  Goal k u i log buffer p w a r = Outcome Values (runAt (suc k) (isGoing a) a (op p w u i a) bytes rs buffer log) log buffer₀ u i r
 
   abbrev pub Tied : ℕ → Type 0
   Tied k = (u i : ℕ) (log buffer : List ℕ) (p : Place) (w : Wire) (a : Status) (s : State) → Rel p w a s → k ≡ (length log - u) / 2 → i ≤ length rs → Lent log buffer
       → buffer ≡ overlaid (bytesIn s) buffer₀ → Goal k u i log buffer p w a (runs k s (drop i rs))
 
   module _ (p : Place) (w : Wire) (s : State) (q : Rel p w Going s) where
+    -- a call that is going on has no values yet
+    no-value : {vs : List ℕ} → vs ≡ [] → valuesIn s ≡ vs
+    no-value {vs} e = go s (t .some p w s q) ∙ sym e
+      where
+        go : (s : State) → (want s ≡ nothing → ⊥) → valuesIn s ≡ []
+        go (going m a l taken brings k bs) h = refl
+        go (ended a vs bs) h = absurd (h refl)
+
     -- no step makes an access any more
     halted : (u i n : ℕ) (a : Status) (vs log buffer : List ℕ) (v : Verdict) (k : ℕ) → verdictOf (op p w u i Going) bytes (length buffer) (length log) (replyOf rs i) ≡ v
-        → act v (op p w u i Going) ≡ record { op = op p w u i a; answer = a } → isGoing a ≡ false → noted v u log ≡ log → taken v (op p w u i Going) buffer ≡ buffer → buffer ≡ overlaid (bytesIn s) buffer₀
+        → act v (op p w u i Going) ≡ record { op = op p w u i a; answer = a } → isGoing a ≡ false → valuesIn s ≡ Values a w → noted v u log ≡ log → taken v (op p w u i Going) buffer ≡ buffer → buffer ≡ overlaid (bytesIn s) buffer₀
         → Goal k u i log buffer p w Going (halt a s n vs)
     unfolding runAt encode readsOf
-    halted u i n a vs log buffer v k e f g l m b = rw (unroll v k (op p w u i Going) buffer log e, f, l, m) (go k (isGoing a) g)
+    halted u i n a vs log buffer v k e f g z l m b = rw (unroll v k (op p w u i Going) buffer log e, f, l, m) (go k (isGoing a) g)
       where
-        go : (k : ℕ) (c : Bool) → c ≡ false → Outcome (runAt k c a (op p w u i a) bytes rs buffer log) log buffer₀ u i (halt a s n vs)
-        go zero c h = record { answer = refl; used = omega arith; replies = omega arith; logged = refl; stored = b }
+        go : (k : ℕ) (c : Bool) → c ≡ false → Outcome Values (runAt k c a (op p w u i a) bytes rs buffer log) log buffer₀ u i (halt a s n vs)
+        go zero c h = record { answer = refl; used = omega arith; replies = omega arith; logged = refl; values = z; stored = b }
         go (suc k) true h = no (sym h)
-        go (suc k) false h = record { answer = refl; used = omega arith; replies = omega arith; logged = refl; stored = b }
+        go (suc k) false h = record { answer = refl; used = omega arith; replies = omega arith; logged = refl; values = z; stored = b }
 
     -- an access is made, and the run goes on from there
     goes : (k : ℕ) → Tied k → (u i j : ℕ) (log buffer : List ℕ) (a : Access) (read : Bool) → verdictOf (op p w u i Going) bytes (length buffer) (length log) (replyOf rs i) ≡ Made (firstWord a) (valueWord a) read
@@ -138,7 +148,7 @@ module _ (job : Job) (bytes rs buffer₀ : List ℕ) (same : length bytes ≡ jo
         let h′ : Lent log′ buffer′ = record { long = n ∙ h .long; wide = z ∙ h .wide } in
         let o = ih (u + 2) j log′ buffer′ (after job p w v .place) (after job p w v .wire) (after job p w v .status) (next s v) (t .steps p w s v q) (omega (arith, n)) l h′ b′ in
         rw (unroll (Made (firstWord a) v read) (suc k) (op p w u i Going) buffer log e, ← c, moved-is p w u i (u + 2) j v)
-        (more a _ log buffer₀ u i j _ d o)
+        (more Values a _ log buffer₀ u i j _ d o)
 
     by-want : (k : ℕ) → Tied k → (u i : ℕ) (log buffer : List ℕ) → suc k ≡ (length log - u) / 2 → i ≤ length rs → Lent log buffer → buffer ≡ overlaid (bytesIn s) buffer₀
         → (y : Want) → want s ≡ y → accessOf job p w bytes ≡ asked y → Goal (suc k) u i log buffer p w Going (made y s k (drop i rs) (runs k))
@@ -161,13 +171,13 @@ module _ (job : Job) (bytes rs buffer₀ : List ℕ) (same : length bytes ≡ jo
             let y₀ : replyOf rs i ≡ Nothing = rw z in
             let y₁ : verdictOf (op p w u i Going) bytes (length buffer) (length log) (replyOf rs i) ≡ answered (due.Read o) (replyOf rs i) = room-at p w u i log buffer (replyOf rs i) h (omega arith) g in
             rw (drop-of-length-le rs {i = i} z′)
-            (halted u i (suc k) RepliesEnded [] log buffer Dry (suc k) (y₁ ∙ ap (answered (due.Read o)) y₀) refl refl refl refl b)
+            (halted u i (suc k) RepliesEnded [] log buffer Dry (suc k) (y₁ ∙ ap (answered (due.Read o)) y₀) refl refl (no-value (t .no-values w .0)) refl refl b)
 
     at-zero : (u i : ℕ) (log buffer : List ℕ) → 0 ≡ (length log - u) / 2 → Lent log buffer → buffer ≡ overlaid (bytesIn s) buffer₀
         → (y : Want) → want s ≡ y → Goal 0 u i log buffer p w Going (noRoom y s (drop i rs))
     at-zero u i log buffer e h b nothing f = absurd (t .some p w s q f)
-    at-zero u i log buffer e h b (reads o) f = halted u i 0 LogFull (drop i rs) log buffer Full 0 (full-at p w u i log buffer (replyOf rs i) h (omega arith)) refl refl refl refl b
-    at-zero u i log buffer e h b (writes o v) f = halted u i 0 LogFull (drop i rs) log buffer Full 0 (full-at p w u i log buffer (replyOf rs i) h (omega arith)) refl refl refl refl b
+    at-zero u i log buffer e h b (reads o) f = halted u i 0 LogFull (drop i rs) log buffer Full 0 (full-at p w u i log buffer (replyOf rs i) h (omega arith)) refl refl (no-value (t .no-values w .1)) refl refl b
+    at-zero u i log buffer e h b (writes o v) f = halted u i 0 LogFull (drop i rs) log buffer Full 0 (full-at p w u i log buffer (replyOf rs i) h (omega arith)) refl refl (no-value (t .no-values w .1)) refl refl b
 
   -- an ended run stays ended
   over-runs : (k : ℕ) (s : State) (vs : List ℕ) → want s ≡ nothing → runs k s vs ≡ halt (statusIn s) s k vs
@@ -176,11 +186,11 @@ module _ (job : Job) (bytes rs buffer₀ : List ℕ) (same : length bytes ≡ jo
   over-runs (suc k) s vs e = rw e
 
   over-goal : (k u i : ℕ) (log buffer : List ℕ) (p : Place) (w : Wire) (a : Status) (s : State) → Rel p w a s → isGoing a ≡ false → buffer ≡ overlaid (bytesIn s) buffer₀
-      → Outcome (here a (op p w u i a) buffer log) log buffer₀ u i (runs k s (drop i rs))
+      → Outcome Values (here a (op p w u i a) buffer log) log buffer₀ u i (runs k s (drop i rs))
   unfolding encode readsOf
   over-goal k u i log buffer p w a s q g b =
       let z = t .over p w a s q g in
-      rw (over-runs k s (drop i rs) (z .0)) (record { answer = z .1; used = omega arith; replies = omega arith; logged = refl; stored = b })
+      rw (over-runs k s (drop i rs) (z .0)) (record { answer = z .1; used = omega arith; replies = omega arith; logged = refl; values = t .values p w a s q g; stored = b })
 
   over-tied : (k u i : ℕ) (log buffer : List ℕ) (p : Place) (w : Wire) (a : Status) (s : State) → Rel p w a s → isGoing a ≡ false → buffer ≡ overlaid (bytesIn s) buffer₀
       → Goal k u i log buffer p w a (runs k s (drop i rs))
