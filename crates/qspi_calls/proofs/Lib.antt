@@ -1,4 +1,5 @@
 pub mod Outcome
+pub mod StartLaws
 pub mod Tied
 pub mod Phases
 pub mod Scripted

@@ -2,6 +2,12 @@
 // the Rust's, of `QspiLowLevel` and `QspiSpansionS25Fl256SIoMode`. `log`, `data` and `buffer` are the
 // lengths of the memory that the steps will be lent.
 ghost use mathlib.Core.Path.{_≡_};
+ghost use Prim.Native.Nat.{_+_};
+ghost use mathlib.Core.Bool.{true, false};
+ghost use lib.Dec.{ltb};
+ghost use Rattle.qspi_calls.specs.Starts as spec;
+ghost use Rattle.qspi_transfer.specs.declared.low_level.Sequence.the-variants as sequence;
+ghost use Rattle.qspi_script.specs.declared.Stage.the-variants as stage;
 use qspi_operation::Op;
 use qspi_script::Job;
 use qspi_script::Lent;
@@ -15,10 +21,9 @@ use qspi_script::Status;
 use qspi_script::Wanted;
 use qspi_transfer::Phase;
 use qspi_transfer::low_level::Sequence;
+use zynq7000_hal::qspi::BaudRateConfig;
 use zynq7000_hal::qspi::ClockConfig;
 use zynq7000_hal::qspi::Initialization;
-use zynq7000_hal::qspi::InitializeWords;
-use zynq7000_hal::qspi::LoopbackWrite;
 
 // What the status and configuration registers are to be set to by `new`.
 pub enum Latency {
@@ -60,7 +65,9 @@ const NO_REGISTERS: LowLevel = LowLevel {
 };
 
 // A call that is lent only a log.
-fn command(script: Script, log: usize) -> Job {
+fn command(script: Script, log: usize) -> Job
+    ensures job { λ r. ⌜ r ≡ spec.commandJob script log ⌝ }
+{
     let lent = Lent {
         data: 0,
         buffer: 0,
@@ -76,7 +83,9 @@ fn command(script: Script, log: usize) -> Job {
     }
 }
 
-fn place(stage: Stage, chunk: u8, sr: u8, cr: u8) -> Place {
+fn place(stage: Stage, chunk: u8, sr: u8, cr: u8) -> Place
+    ensures place { λ r. ⌜ r ≡ spec.placeAt stage chunk sr cr ⌝ }
+{
     Place {
         stage,
         done: 0,
@@ -87,7 +96,9 @@ fn place(stage: Stage, chunk: u8, sr: u8, cr: u8) -> Place {
 }
 
 // The first access of a transfer is due.
-fn going(job: Job, place: Place) -> Op {
+fn going(job: Job, place: Place) -> Op
+    ensures start { λ r. ⌜ r ≡ spec.going job place ⌝ }
+{
     let wire = qspi_transfer::begin(Phase::DrainStatus);
     Op {
         job,
@@ -100,7 +111,9 @@ fn going(job: Job, place: Place) -> Op {
 }
 
 // No access is due.
-fn over(job: Job, status: Status) -> Op {
+fn over(job: Job, status: Status) -> Op
+    ensures start { λ r. ⌜ r ≡ spec.over job status ⌝ }
+{
     let wire = qspi_transfer::begin(Phase::DrainStatus);
     let end = place(Stage::End, 0, 0, 0);
     Op {
@@ -113,39 +126,57 @@ fn over(job: Job, status: Status) -> Op {
     }
 }
 
-fn one_transfer(stage: Stage, log: usize) -> Op {
+fn one_transfer(stage: Stage, log: usize) -> Op
+    ensures start { λ r. ⌜ r ≡ spec.oneTransfer stage log ⌝ }
+{
     going(command(PLAIN, log), place(stage, 0, 0, 0))
 }
 
-pub fn write_enable(log: usize) -> Op {
+pub fn write_enable(log: usize) -> Op
+    ensures start { λ r. ⌜ r ≡ spec.oneTransfer stage.Enable log ⌝ }
+{
     one_transfer(Stage::Enable, log)
 }
 
-pub fn write_disable(log: usize) -> Op {
+pub fn write_disable(log: usize) -> Op
+    ensures start { λ r. ⌜ r ≡ spec.oneTransfer stage.Disable log ⌝ }
+{
     one_transfer(Stage::Disable, log)
 }
 
-pub fn clear_status(log: usize) -> Op {
+pub fn clear_status(log: usize) -> Op
+    ensures start { λ r. ⌜ r ≡ spec.oneTransfer stage.Clear log ⌝ }
+{
     one_transfer(Stage::Clear, log)
 }
 
-pub fn read_status_register_1(log: usize) -> Op {
+pub fn read_status_register_1(log: usize) -> Op
+    ensures start { λ r. ⌜ r ≡ spec.oneTransfer stage.ReadStatus log ⌝ }
+{
     one_transfer(Stage::ReadStatus, log)
 }
 
-pub fn read_configuration_register(log: usize) -> Op {
+pub fn read_configuration_register(log: usize) -> Op
+    ensures start { λ r. ⌜ r ≡ spec.oneTransfer stage.ReadConfig log ⌝ }
+{
     one_transfer(Stage::ReadConfig, log)
 }
 
-pub fn read_rdid_base(log: usize) -> Op {
+pub fn read_rdid_base(log: usize) -> Op
+    ensures start { λ r. ⌜ r ≡ spec.oneTransfer stage.ReadId log ⌝ }
+{
     one_transfer(Stage::ReadId, log)
 }
 
-pub fn read_rdid_extended(log: usize) -> Op {
+pub fn read_rdid_extended(log: usize) -> Op
+    ensures start { λ r. ⌜ r ≡ spec.oneTransfer stage.ReadLongId log ⌝ }
+{
     one_transfer(Stage::ReadLongId, log)
 }
 
-fn enabled(stage: Stage) -> Script {
+fn enabled(stage: Stage) -> Script
+    ensures script { λ r. ⌜ r ≡ spec.enabled stage ⌝ }
+{
     Script {
         after_enable: stage,
         after_clear: Stage::End,
@@ -155,14 +186,18 @@ fn enabled(stage: Stage) -> Script {
     }
 }
 
-pub fn write_status(sr: u8, log: usize) -> Op {
+pub fn write_status(sr: u8, log: usize) -> Op
+    ensures start { λ r. ⌜ r ≡ spec.enabledThen stage.WriteStatus sr 0 log ⌝ }
+{
     going(
         command(enabled(Stage::WriteStatus), log),
         place(Stage::Enable, 0, sr, 0),
     )
 }
 
-pub fn write_status_and_config_register(sr: u8, cr: u8, log: usize) -> Op {
+pub fn write_status_and_config_register(sr: u8, cr: u8, log: usize) -> Op
+    ensures start { λ r. ⌜ r ≡ spec.enabledThen stage.WriteRegisters sr cr log ⌝ }
+{
     going(
         command(enabled(Stage::WriteRegisters), log),
         place(Stage::Enable, 0, sr, cr),
@@ -170,7 +205,9 @@ pub fn write_status_and_config_register(sr: u8, cr: u8, log: usize) -> Op {
 }
 
 // What is to be written to both registers once they are read.
-fn updating(after_clear: Stage, purpose: Purpose, wanted: Wanted, log: usize) -> Job {
+fn updating(after_clear: Stage, purpose: Purpose, wanted: Wanted, log: usize) -> Job
+    ensures job { λ r. ⌜ r ≡ spec.updatingJob «after_clear» purpose wanted log ⌝ }
+{
     let lent = Lent {
         data: 0,
         buffer: 0,
@@ -194,7 +231,9 @@ fn updating(after_clear: Stage, purpose: Purpose, wanted: Wanted, log: usize) ->
 }
 
 // Whether `new` reads the registers at all.
-fn may_update(quad: bool, set_latency: bool, clear: bool) -> Stage {
+fn may_update(quad: bool, set_latency: bool, clear: bool) -> Stage
+    ensures stage { λ r. ⌜ r ≡ spec.mayUpdate quad «set_latency» clear ⌝ }
+{
     if quad {
         return Stage::ReadConfig;
     }
@@ -207,7 +246,9 @@ fn may_update(quad: bool, set_latency: bool, clear: bool) -> Stage {
     Stage::End
 }
 
-fn configuring(quad: bool, set_latency: bool, latency: u8, clear: bool, log: usize) -> Op {
+fn configuring(quad: bool, set_latency: bool, latency: u8, clear: bool, log: usize) -> Op
+    ensures start { λ r. ⌜ r ≡ spec.newWith quad «set_latency» latency clear log ⌝ }
+{
     let wanted = Wanted {
         quad,
         set_latency,
@@ -228,7 +269,9 @@ fn configuring(quad: bool, set_latency: bool, latency: u8, clear: bool, log: usi
     }
 }
 
-pub fn new(config: Config, log: usize) -> Op {
+pub fn new(config: Config, log: usize) -> Op
+    ensures start { λ r. ⌜ r ≡ spec.newOf config log ⌝ }
+{
     let quad = config.set_quad_bit_if_necessary;
     let clear = config.clear_write_protection;
     let latency = config.latency_config;
@@ -238,7 +281,9 @@ pub fn new(config: Config, log: usize) -> Op {
     }
 }
 
-pub fn set_write_protection(protection: u8, log: usize) -> Op {
+pub fn set_write_protection(protection: u8, log: usize) -> Op
+    ensures start { λ r. ⌜ r ≡ spec.setWriteProtection protection log ⌝ }
+{
     let wanted = Wanted {
         quad: false,
         set_latency: false,
@@ -255,7 +300,9 @@ pub fn set_write_protection(protection: u8, log: usize) -> Op {
 }
 
 // Write enable, the work, the status until it is clean; on error clear status and write disable.
-fn working(stage: Stage, erasing: bool, failure: Status, addr: u32, data: usize, log: usize) -> Job {
+fn working(stage: Stage, erasing: bool, failure: Status, addr: u32, data: usize, log: usize) -> Job
+    ensures job { λ r. ⌜ r ≡ spec.workingJob stage erasing failure addr «data» log ⌝ }
+{
     let lent = Lent {
         data,
         buffer: 0,
@@ -279,7 +326,9 @@ fn working(stage: Stage, erasing: bool, failure: Status, addr: u32, data: usize,
 }
 
 // addr + length above 16,777,215, the sum taken in full.
-fn out_of_range(addr: u32, length: usize) -> bool {
+fn out_of_range(addr: u32, length: usize) -> bool
+    ensures range { λ r. ⌜ r ≡ ltb 16777215 (addr + length) ⌝ }
+{
     if 0xFF_FFFF < length {
         return true;
     }
@@ -290,7 +339,9 @@ fn out_of_range(addr: u32, length: usize) -> bool {
     }
 }
 
-pub fn erase_sector(addr: u32, log: usize) -> Op {
+pub fn erase_sector(addr: u32, log: usize) -> Op
+    ensures start { λ r. ⌜ r ≡ spec.eraseSector addr log ⌝ }
+{
     let job = working(
         Stage::Erase,
         true,
@@ -308,7 +359,9 @@ pub fn erase_sector(addr: u32, log: usize) -> Op {
     going(job, place(Stage::Enable, 0, 0, 0))
 }
 
-pub fn program(addr: u32, data: usize, log: usize) -> Op {
+pub fn program(addr: u32, data: usize, log: usize) -> Op
+    ensures start { λ r. ⌜ r ≡ spec.programOf addr «data» log ⌝ }
+{
     let job = working(
         Stage::Program,
         false,
@@ -333,7 +386,9 @@ pub fn program(addr: u32, data: usize, log: usize) -> Op {
 }
 
 // addr + length above 4,294,967,296, the sum taken in full.
-fn spans_too_far(addr: u32, length: usize) -> bool {
+fn spans_too_far(addr: u32, length: usize) -> bool
+    ensures span { λ r. ⌜ r ≡ ltb 4294967296 (addr + length) ⌝ }
+{
     if 0x1_0000_0000 < length {
         return true;
     }
@@ -344,7 +399,9 @@ fn spans_too_far(addr: u32, length: usize) -> bool {
     }
 }
 
-fn read(addr: u32, fast: bool, dummy: bool, buffer: usize, log: usize) -> Op {
+fn read(addr: u32, fast: bool, dummy: bool, buffer: usize, log: usize) -> Op
+    ensures start { λ r. ⌜ r ≡ spec.readOf addr fast dummy buffer log ⌝ }
+{
     let lent = Lent {
         data: 0,
         buffer,
@@ -369,16 +426,22 @@ fn read(addr: u32, fast: bool, dummy: bool, buffer: usize, log: usize) -> Op {
     going(job, place(Stage::Read, chunk, 0, 0))
 }
 
-pub fn read_page_read(addr: u32, buffer: usize, log: usize) -> Op {
+pub fn read_page_read(addr: u32, buffer: usize, log: usize) -> Op
+    ensures start { λ r. ⌜ r ≡ spec.readOf addr false false buffer log ⌝ }
+{
     read(addr, false, false, buffer, log)
 }
 
-pub fn read_fast_read(addr: u32, dummy_byte: bool, buffer: usize, log: usize) -> Op {
+pub fn read_fast_read(addr: u32, dummy_byte: bool, buffer: usize, log: usize) -> Op
+    ensures start { λ r. ⌜ r ≡ spec.readOf addr true «dummy_byte» buffer log ⌝ }
+{
     read(addr, true, dummy_byte, buffer, log)
 }
 
 // A call that sends nothing.
-fn registers_job(sequence: Sequence, word: u32, log: usize) -> Job {
+fn registers_job(sequence: Sequence, word: u32, log: usize) -> Job
+    ensures job { λ r. ⌜ r ≡ spec.registersJob sequence word log ⌝ }
+{
     let lent = Lent {
         data: 0,
         buffer: 0,
@@ -395,7 +458,9 @@ fn registers_job(sequence: Sequence, word: u32, log: usize) -> Job {
     }
 }
 
-fn registers(sequence: Sequence, word: u32, log: usize) -> Op {
+fn registers(sequence: Sequence, word: u32, log: usize) -> Op
+    ensures start { λ r. ⌜ r ≡ spec.registersOf sequence word log ⌝ }
+{
     let job = registers_job(sequence, word, log);
     let wire = qspi_transfer::begin(Phase::Registers);
     let at = place(Stage::Registers, 0, 0, 0);
@@ -409,18 +474,23 @@ fn registers(sequence: Sequence, word: u32, log: usize) -> Op {
     }
 }
 
-fn initializing(words: InitializeWords, log: usize) -> Op {
-    let loopback = words.loopback;
-    let config = words.config;
-    match loopback {
-        LoopbackWrite::Word(_) => registers(Sequence::InitializeWithLoopback, config, log),
-        LoopbackWrite::Nothing => registers(Sequence::Initialize, config, log),
+// With loopback there is one access more.
+fn sequence_of(config: BaudRateConfig) -> Sequence
+    ensures sequence { λ r. ⌜ r ≡ spec.initializing config ⌝ }
+{
+    match config {
+        BaudRateConfig::WithLoopback => Sequence::InitializeWithLoopback,
+        BaudRateConfig::WithoutLoopback(_) => Sequence::Initialize,
     }
 }
 
-pub fn initialize(clock_config: ClockConfig, phase: bool, polarity: bool, log: usize) -> Op {
+pub fn initialize(clock_config: ClockConfig, phase: bool, polarity: bool, log: usize) -> Op
+    ensures start { λ r. ⌜ r ≡ spec.initializeOf «clock_config» phase polarity log ⌝ }
+{
+    let baud_rate_config = clock_config.baud_rate_config;
+    let sequence = sequence_of(baud_rate_config);
     match zynq7000_hal::qspi::initialize_words(clock_config, phase, polarity) {
-        Initialization::Words(words) => initializing(words, log),
+        Initialization::Words(words) => registers(sequence, words.config, log),
         Initialization::FieldTooWide => over(
             registers_job(Sequence::Initialize, 0, log),
             Status::FieldTooWide,
@@ -428,15 +498,21 @@ pub fn initialize(clock_config: ClockConfig, phase: bool, polarity: bool, log: u
     }
 }
 
-pub fn enable_linear_addressing(config: u32, log: usize) -> Op {
+pub fn enable_linear_addressing(config: u32, log: usize) -> Op
+    ensures start { λ r. ⌜ r ≡ spec.registersOf sequence.EnableLinearAddressing config log ⌝ }
+{
     registers(Sequence::EnableLinearAddressing, config, log)
 }
 
-pub fn enable_io_mode(dual_flash: bool, log: usize) -> Op {
+pub fn enable_io_mode(dual_flash: bool, log: usize) -> Op
+    ensures start { λ r. ⌜ r ≡ spec.enableIoMode «dual_flash» log ⌝ }
+{
     let config = zynq7000_hal::qspi::io_mode_config(dual_flash);
     registers(Sequence::EnableIoMode, config.0, log)
 }
 
-pub fn disable(log: usize) -> Op {
+pub fn disable(log: usize) -> Op
+    ensures start { λ r. ⌜ r ≡ spec.registersOf sequence.Disable 0 log ⌝ }
+{
     registers(Sequence::Disable, 0, log)
 }

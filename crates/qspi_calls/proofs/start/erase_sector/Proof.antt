@@ -1,0 +1,61 @@
+use borrow.Author.Tests.{lt-ltb, le-ltb, le-leb, lt-leb, eq-eqb, ne-eqb}
+use borrow.Author.Needs.{needs}
+use Rattle.qspi_calls.proofs.start.erase_sector.Statement.{statement}
+use Rattle.qspi_calls.proofs.start.erase_sector.Tie as tie
+use Rattle.qspi_calls.proofs.start.erase_sector.Reads as reads
+use Rattle.qspi_calls.proofs.start.erase_sector.Lts as lts
+use Rattle.qspi_calls.proofs.start.going.Reads as going-reads
+use Rattle.qspi_calls.proofs.start.out_of_range.Reads as out-of-range-reads
+use Rattle.qspi_calls.proofs.start.over.Reads as over-reads
+use Rattle.qspi_calls.proofs.start.place.Reads as place-reads
+use Rattle.qspi_calls.proofs.start.working.Reads as working-reads
+
+-- src/start.rt:345:9
+working-requires : tie.Need-working-requires
+working-requires c κs = search needs
+
+-- src/start.rt:353:8
+out-of-range-requires : tie.Need-out-of-range-requires
+out-of-range-requires c κs = search needs
+
+-- src/start.rt:354:9
+over-requires : tie.Need-over-requires
+over-requires c κs = search needs
+
+-- src/start.rt:354:9
+returns : tie.Need-returns
+returns c = simp (c .over .ensures, c .before .if1 .taken, ← c .before .before .out-of-range .ensures, c .before .before .before .working .ensures)
+
+-- src/start.rt:357:9
+over-requires-2 : tie.Need-over-requires-2
+over-requires-2 c κs = search needs
+
+-- src/start.rt:357:9
+returns-2 : tie.Need-returns-2
+returns-2 c = simp (c .over2 .ensures, ne-eqb _ _ (c .before .if2 .taken), c .before .before .if1 .left, ← c .before .before .before .out-of-range .ensures, c .before .before .before .before .working .ensures)
+
+-- src/start.rt:359:16
+place-requires : tie.Need-place-requires
+place-requires c κs = search needs
+
+-- src/start.rt:359:5
+going-requires : tie.Need-going-requires
+going-requires c κs = search needs
+
+-- src/start.rt:342:1
+returns-3 : tie.Need-returns-3
+returns-3 c = simp (c .going .ensures, c .before .place .ensures, eq-eqb _ _ (c .before .before .if2 .left), c .before .before .before .if1 .left, ← c .before .before .before .before .out-of-range .ensures, c .before .before .before .before .before .working .ensures)
+
+pub erase-sector-spec : {M : Type 1} → statement M
+erase-sector-spec =
+    tie.close
+    (tie.spec
+    working-requires
+    out-of-range-requires
+    over-requires
+    returns
+    over-requires-2
+    returns-2
+    place-requires
+    going-requires
+    returns-3)

@@ -1,0 +1,34 @@
+use borrow.Author.Tests.{lt-ltb, le-ltb, le-leb, lt-leb, eq-eqb, ne-eqb}
+use borrow.Author.Needs.{needs}
+use Rattle.qspi_calls.proofs.start.write_status_and_config_register.Statement.{statement}
+use Rattle.qspi_calls.proofs.start.write_status_and_config_register.Tie as tie
+use Rattle.qspi_calls.proofs.start.write_status_and_config_register.Reads as reads
+use Rattle.qspi_calls.proofs.start.write_status_and_config_register.Lts as lts
+use Rattle.qspi_calls.proofs.start.command.Reads as command-reads
+use Rattle.qspi_calls.proofs.start.enabled.Reads as enabled-reads
+use Rattle.qspi_calls.proofs.start.going.Reads as going-reads
+use Rattle.qspi_calls.proofs.start.place.Reads as place-reads
+
+-- src/start.rt:202:17
+enabled-requires : tie.Need-enabled-requires
+enabled-requires c κs = search needs
+
+-- src/start.rt:202:9
+command-requires : tie.Need-command-requires
+command-requires c κs = search needs
+
+-- src/start.rt:203:9
+place-requires : tie.Need-place-requires
+place-requires c κs = search needs
+
+-- src/start.rt:201:5
+going-requires : tie.Need-going-requires
+going-requires c κs = search needs
+
+-- src/start.rt:198:1
+returns : tie.Need-returns
+returns c = simp (c .going .ensures, c .before .place .ensures, c .before .before .command .ensures, c .before .before .before .enabled .ensures)
+
+pub write-status-and-config-register-spec : {M : Type 1} → statement M
+write-status-and-config-register-spec =
+    tie.close (tie.spec enabled-requires command-requires place-requires going-requires returns)
