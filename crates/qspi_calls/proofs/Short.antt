@@ -1,0 +1,88 @@
+-- Calls of one-word transfers: each is tied to its script. Assumes nothing.
+use mathlib.Core.Path.{_≡_, refl, ap, _∙_, sym}
+use mathlib.Core.Bool.{Bool, true, false}
+use mathlib.Core.List.{List, [], _∷_, _++_, reverse}
+use Prim.Native.Nat.{ℕ, zero, suc, _+_, _*_, _<_}
+use native.Mathlib.Omega.{arith}
+use lib.ListN.{length, getD}
+use Rattle.qspi_transfer.specs.declared.Phase.the-variants.{Disable}
+use Rattle.qspi_transfer.specs.declared.Wire.{Wire}
+use Rattle.qspi_script.specs.Stages.{oneWord, frameOf, firstWord, dueWord}
+use Rattle.qspi_script.specs.Turns.{turnOf, finish}
+use Rattle.qspi_script.specs.declared.Status.{Status}
+use Rattle.qspi_script.specs.declared.Status.the-variants.{Going, Done, RepliesEnded, LogFull}
+use Rattle.qspi_script.specs.declared.Job.{Job}
+use Rattle.qspi_script.specs.declared.Place.{Place}
+use Rattle.qspi_script.specs.declared.Turned.{Turned}
+use Rattle.qspi_operation.specs.declared.Op.{Op}
+use Rattle.qspi_operation.specs.Store.{isReading}
+use Rattle.qspi_operation.specs.Step.{isGoing}
+use Rattle.qspi_calls.specs.Machine.{Transfer, Script, ends, exchange, none, begin}
+use Rattle.qspi_calls.specs.Calls.{short}
+use Rattle.qspi_calls.specs.Starts as start
+use Rattle.qspi_calls.proofs.Phases.{wire, words, Same, p-drain}
+use Rattle.qspi_calls.proofs.Scripted.{Turns, Scripted, Rel, rel-on, rel-over, script-tie}
+use Rattle.qspi_calls.proofs.Whole.{Starts}
+
+-- the replies of a transfer that takes one, or three
+pub of-one : (taken : List ℕ) (P : List ℕ → Type 0) → length taken ≡ 1 → ((r : ℕ) → P (r ∷ [])) → P taken
+of-one [] P e h = absurd (omega arith)
+of-one (r ∷ []) P e h = h r
+of-one (r ∷ s ∷ l) P e h = absurd (omega arith)
+
+pub of-three : (taken : List ℕ) (P : List ℕ → Type 0) → length taken ≡ 3 → ((q r s : ℕ) → P (q ∷ r ∷ s ∷ [])) → P taken
+of-three [] P e h = absurd (omega arith)
+of-three (q ∷ []) P e h = absurd (omega arith)
+of-three (q ∷ r ∷ []) P e h = absurd (omega arith)
+of-three (q ∷ r ∷ s ∷ []) P e h = h q r s
+of-three (q ∷ r ∷ s ∷ t ∷ l) P e h = absurd (omega arith)
+
+pub same-short : (port word : ℕ) → Same (oneWord port) (short port word)
+same-short port word = record { port = refl; further = refl; bytes = refl; few = omega arith; twice = refl }
+
+pub word-short : (job : Job) (p : Place) (bytes : List ℕ) (port word : ℕ) → firstWord job p ≡ word → (i : ℕ) → i < length (words (short port word)) → dueWord job p i bytes ≡ getD (words (short port word)) i 0
+word-short job p bytes port word e zero l = e
+word-short job p bytes port word e (suc i) l = absurd (omega arith)
+
+-- ---- a call of one transfer
+
+pub data Only (p₀ : Place) (x₀ : Transfer) (k₀ : List ℕ → Script) : Place → Transfer → (List ℕ → Script) → Type 0 where
+  only : Only p₀ x₀ k₀ p₀ x₀ k₀
+
+-- the values that a call without any has
+abbrev pub no-values : Status → Wire → List ℕ
+no-values a w = []
+
+module _ (job : Job) (p : Place) (buffer : List ℕ) (Values : Status → Wire → List ℕ) (x : Transfer) (k : List ℕ → Script) (same : Same (frameOf job p) x)
+    (word : (i : ℕ) → i < length (words x) → dueWord job p i [] ≡ getD (words x) i 0)
+    (turn : (c i b : ℕ) (taken : List ℕ) → length taken ≡ x .replies → Turns job [] buffer Values (Only p x k) (turnOf job p (getD taken 0 0)) (wire Disable c i b taken) (k (reverse taken)))
+    (unread : isReading (p .stage) ≡ false)
+    (none-else : (w : Wire) → (Values RepliesEnded w ≡ []) × (Values LogFull w ≡ [])) where
+  only-same : (q : Place) (y : Transfer) (z : List ℕ → Script) → Only p x k q y z → Same (frameOf job q) y
+  only-same q y z only = same
+
+  only-word : (q : Place) (y : Transfer) (z : List ℕ → Script) → Only p x k q y z → (i : ℕ) → i < length (words y) → dueWord job q i [] ≡ getD (words y) i 0
+  only-word q y z only = word
+
+  only-turn : (q : Place) (y : Transfer) (z : List ℕ → Script) → Only p x k q y z → (c i b : ℕ) (taken : List ℕ) → length taken ≡ y .replies
+      → Turns job [] buffer Values (Only p x k) (turnOf job q (getD taken 0 0)) (wire Disable c i b taken) (z (reverse taken))
+  only-turn q y z only = turn
+
+  only-unread : (q : Place) (y : Transfer) (z : List ℕ → Script) → Only p x k q y z → isReading (q .stage) ≡ false
+  only-unread q y z only = unread
+
+  pub one-transfer : (log : List ℕ) → 0 ≡ job .lent .«data» → length log ≡ job .lent .log → length buffer ≡ job .lent .buffer → Starts (start.going job p) [] log buffer Values (exchange x k)
+  one-transfer log d l b = record {
+    job = job;
+    place = p;
+    wire = _;
+    status = Going;
+    is = refl;
+    Rel = Rel job [] buffer Values (Only p x k);
+    tie = script-tie job [] buffer Values (Only p x k) (record { same = only-same; word = only-word; turn = only-turn; unread = only-unread; no-values = none-else });
+    rel = rel-on only p-drain;
+    lent-data = d;
+    lent-log = l;
+    lent-buffer = b;
+    unread = refl;
+  }

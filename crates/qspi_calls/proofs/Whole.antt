@@ -1,0 +1,83 @@
+-- A whole call: where its start is tied to its script, its run is the run over lists, in answer, used counts, values, log and buffer. Assumes
+-- nothing.
+use mathlib.Core.Path.{_≡_, refl, ap, _∙_, sym}
+use mathlib.Core.Bool.{Bool, true, false}
+use mathlib.Core.List.{List, [], _∷_, _++_}
+use Prim.Native.Nat.{ℕ, zero, suc, _+_, _-_, _*_, _/_, _^_, _≤_, _<_}
+use native.Mathlib.Omega.{arith}
+use lib.ListN.{length, drop}
+use lib.Seq.{sets, sets-eq}
+use Rattle.zynq7000.specs.Access.{encode}
+use Rattle.qspi_transfer.specs.declared.Wire.{Wire}
+use Rattle.qspi_script.specs.declared.Status.{Status}
+use Rattle.qspi_script.specs.declared.Job.{Job}
+use Rattle.qspi_script.specs.declared.Place.{Place}
+use Rattle.qspi_operation.specs.declared.Op.{Op}
+use Rattle.qspi_operation.specs.declared.Stepped.{Stepped}
+use Rattle.qspi_operation.specs.Run.{Run, runOf}
+use Rattle.qspi_operation.specs.Run as run-spec
+use Rattle.qspi_calls.specs.declared.runs.Ran.{Ran}
+use Rattle.qspi_calls.specs.Machine.{Script, State, begin, bytesIn, valuesIn, Result, runs, called, overlaid, readsOf}
+use Rattle.qspi_calls.specs.Promise.{ranOf, loggedOf, bufferedOf, handed, Ended}
+use Rattle.qspi_calls.proofs.Outcome.{Outcome, length-encode, run-short}
+use Rattle.qspi_calls.proofs.Tied.{Tie, op, tied}
+
+-- what is promised of a whole call: answer and counts, log, buffer, values
+pub record Whole (Values : Status → Wire → List ℕ) (e : Run) (log buffer : List ℕ) (r : Result) : Type 0 where
+  pub answer : e .answer ≡ r .answer
+  pub used : e .op .used ≡ 2 * length (r .log)
+  pub replies : e .op .replies ≡ readsOf (r .log)
+  pub logged : e .log ≡ loggedOf r log
+  pub stored : e .buffer ≡ bufferedOf r buffer
+  pub values : valuesIn (r .state) ≡ Values (e .answer) (e .op .wire)
+
+-- the log over which a run was made
+log-is : (log : List ℕ) (n : ℕ) (s : State) (rs : List ℕ) → n ≡ length log / 2 → sets log 0 (encode (runs n s rs .log)) ≡ loggedOf (runs n s rs) log
+log-is log n s rs e =
+    let l = runs n s rs .log in
+    let m = length-encode l in
+    let k = run-short n s rs in
+    let f : 0 + length (encode l) ≡ 2 * length l = omega arith in
+    sets-eq (encode l) log 0 (omega arith) ∙ ap (λ (z : ℕ). encode l ++ drop z log) f
+
+-- an operation that a start gives: it stands where the script begins
+pub record Starts (o : Op) (bytes log buffer : List ℕ) (Values : Status → Wire → List ℕ) (c : Script) : Type 1 where
+  pub job : Job
+  pub place : Place
+  pub wire : Wire
+  pub status : Status
+  pub is : o ≡ record { job = job; place = place; wire = wire; used = 0; replies = 0; status = status }
+  pub Rel : Place → Wire → Status → State → Type 0
+  pub tie : Tie job bytes buffer Values Rel
+  pub rel : Rel place wire status (begin c [])
+  pub lent-data : length bytes ≡ job .lent .«data»
+  pub lent-log : length log ≡ job .lent .log
+  pub lent-buffer : length buffer ≡ job .lent .buffer
+  pub unread : bytesIn (begin c []) ≡ []
+
+pub whole : (o : Op) (bytes rs log buffer : List ℕ) (Values : Status → Wire → List ℕ) (c : Script) → length rs < 2 ^ 64 → Starts o bytes log buffer Values c
+    → Whole Values (runOf o bytes rs buffer log) log buffer (called c (length log / 2) rs)
+whole o bytes rs log buffer Values c fits s =
+    let k : (length log - 0) / 2 ≡ length log / 2 = omega arith in
+    let b : buffer ≡ overlaid (bytesIn (begin c [])) buffer = ap (λ (z : List ℕ). overlaid z buffer) (sym (s .unread)) in
+    let y = tied (s .job) bytes rs buffer (s .lent-data) fits Values (s .tie) ((length log - 0) / 2) 0 0 log buffer (s .place) (s .wire) (s .status) (begin c []) (s .rel) refl (omega arith) (record { long = s .lent-log; wide = s .lent-buffer }) b in
+    rw (s .is, ← k)
+    (record {
+      answer = y .answer;
+      used = omega (arith, y .used);
+      replies = omega (arith, y .replies);
+      logged = y .logged ∙ log-is log ((length log - 0) / 2) (begin c []) rs k;
+      stored = y .stored;
+      values = y .values;
+    })
+
+-- ---- for the code
+
+-- a call that is lent only a log, or a log and data
+pub promised : (o o₀ : Op) (bytes rs log buffer : List ℕ) (Values : Status → Wire → List ℕ) (c : Script) {s : Stepped} {r : Ran} {log₁ : List ℕ} → length rs < 2 ^ 64 → o ≡ o₀ → Starts o₀ bytes log buffer Values c
+    → Ended s log₁ (runOf o bytes rs buffer log) → r ≡ handed s → (r ≡ ranOf (called c (length log / 2) rs)) × (log₁ ≡ loggedOf (called c (length log / 2) rs) log)
+promised o o₀ bytes rs log buffer Values c {s} {r} {log₁} fits e h n f =
+    let w = whole o₀ bytes rs log buffer Values c fits h in
+    let n′ : Ended s log₁ (runOf o₀ bytes rs buffer log) = rw e at n in
+    let g : handed s ≡ ranOf (called c (length log / 2) rs) = rw (n′ .answer, n′ .op, w .answer, w .used, w .replies) in
+    (f ∙ g, n′ .logged ∙ w .logged)
