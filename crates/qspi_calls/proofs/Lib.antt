@@ -6,3 +6,5 @@ pub mod Scripted
 pub mod Whole
 pub mod Short
 pub mod OneTransfer
+pub mod ProgramWords
+pub mod Several
