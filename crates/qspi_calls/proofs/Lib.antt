@@ -8,3 +8,4 @@ pub mod Short
 pub mod OneTransfer
 pub mod ProgramWords
 pub mod Several
+pub mod LowLevelCalls
