@@ -9,3 +9,4 @@ pub mod OneTransfer
 pub mod ProgramWords
 pub mod Several
 pub mod LowLevelCalls
+pub mod ReadBytes
