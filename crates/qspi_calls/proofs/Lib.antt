@@ -10,3 +10,4 @@ pub mod ProgramWords
 pub mod Several
 pub mod LowLevelCalls
 pub mod ReadBytes
+pub mod ReadCalls

@@ -30,8 +30,8 @@ use Rattle.qspi_calls.specs.Calls as call
 use Rattle.qspi_calls.specs.Calls.{short, enabling, disabling, clearing, statusReading, configReading, statusWriting, registersWriting, top, done, refused}
 use Rattle.qspi_calls.specs.Starts as start
 use Rattle.qspi_calls.proofs.Phases.{wire, words, Same, p-drain}
-use Rattle.qspi_calls.proofs.Scripted.{Turns, on, again, over, Scripted, Rel, rel-on, rel-over, script-tie}
-use Rattle.qspi_calls.proofs.Short.{of-one, same-short, word-short, no-values}
+use Rattle.qspi_calls.proofs.Scripted.{Turns, on, again, over, Scripted, Rel, rel-on, script-tie}
+use Rattle.qspi_calls.proofs.Short.{of-one, same-short, word-short, no-values, ended-at-start}
 use Rattle.qspi_calls.proofs.Whole.{Starts}
 use Rattle.qspi_calls.proofs.ProgramWords.{length-words, data-word}
 
@@ -48,17 +48,6 @@ begins job bytes log At s p x k q d l b = record {
   Rel = Rel job bytes [] no-values At;
   tie = script-tie job bytes [] no-values At s;
   rel = rel-on q p-drain;
-  lent-data = d; lent-log = l; lent-buffer = b; unread = refl;
-}
-
--- a call that is refused
-refuses : (job : Job) (bytes log : List ℕ) (At : Stages) → Scripted job bytes [] no-values At → (a : Status) → isGoing a ≡ false
-    → length bytes ≡ job .lent .«data» → length log ≡ job .lent .log → 0 ≡ job .lent .buffer → Starts (start.over job a) bytes log [] no-values (refused a)
-refuses job bytes log At s a g d l b = record {
-  job = job; place = _; wire = _; status = a; is = refl;
-  Rel = Rel job bytes [] no-values At;
-  tie = script-tie job bytes [] no-values At s;
-  rel = rel-over g refl;
   lent-data = d; lent-log = l; lent-buffer = b; unread = refl;
 }
 
@@ -178,7 +167,7 @@ module _ (quad setLatency : Bool) (latency : ℕ) (clear : Bool) (log : List ℕ
 
   pub new-with : Starts (start.newWith quad setLatency latency clear (length log)) [] log [] no-values (call.newWith quad setLatency latency clear)
   new-with =
-      either [] log (ltb 3 latency) (λ e. refuses new-job [] log New new-scripted FieldTooWide refl refl refl refl)
+      either [] log (ltb 3 latency) (λ e. ended-at-start new-job [] log [] FieldTooWide refl refl refl refl)
       (λ e. begins new-job [] log New new-scripted _ _ _ new-clear refl refl refl)
 
 -- ---- set_write_protection
@@ -223,7 +212,7 @@ module _ (protection : ℕ) (log : List ℕ) where
 
   pub set-write-protection : Starts (start.setWriteProtection protection (length log)) [] log [] no-values (call.setWriteProtection protection)
   set-write-protection =
-      either [] log (ltb 7 protection) (λ e. refuses protecting-job [] log Protect protect-scripted FieldTooWide refl refl refl refl)
+      either [] log (ltb 7 protection) (λ e. ended-at-start protecting-job [] log [] FieldTooWide refl refl refl refl)
       (λ e. begins protecting-job [] log Protect protect-scripted _ _ _ protect-status refl refl refl)
 
 -- ---- erase and program: the work, then the status until it is settled
@@ -288,25 +277,12 @@ module _ (work : Stage) (erases : Bool) (failure : Status) (bit a : ℕ) (bytes 
     working =
         begins work-job bytes log Working (record { same = w-same; word = w-word; turn = w-turn; unread = w-unread; no-values = λ w. (refl, refl) }) _ _ _ settle-enable refl refl refl
 
--- no stage at all: for a call that is refused whatever it would do
-abbrev Nowhere : Stages
-Nowhere p x k = ⊥
-
-nowhere : (job : Job) (bytes : List ℕ) → Scripted job bytes [] no-values Nowhere
-nowhere job bytes = record {
-  same = λ p x k q. absurd q;
-  word = λ p x k q i l. absurd q;
-  turn = λ p x k q c i b taken e. absurd q;
-  unread = λ p x k q. absurd q;
-  no-values = λ w. (refl, refl);
-}
-
 pub erase-sector : (a : ℕ) (log : List ℕ) → Starts (start.eraseSector a (length log)) [] log [] no-values (call.eraseSector a)
 erase-sector a log =
-    either [] log (ltb 16777215 (a + 65536)) (λ e. refuses _ [] log Nowhere (nowhere _ []) OutOfRange refl refl refl refl)
+    either [] log (ltb 16777215 (a + 65536)) (λ e. ended-at-start _ [] log [] OutOfRange refl refl refl refl)
     (λ e. either [] log (eqb (a % 65536) 0)
     (λ f. working stage.Erase true EraseErrorBitSet 5 a [] log 0 (call.erasing a) refl (λ r. refl) (same-short 0x1C _) (word-short (start.erasingJob a (length log)) (start.placeAt stage.Erase 0 0 0) [] 0x1C _ refl) refl refl (λ st. refl))
-    (λ f. refuses _ [] log Nowhere (nowhere _ []) Alignment refl refl refl refl))
+    (λ f. ended-at-start _ [] log [] Alignment refl refl refl refl))
 
 -- the words of `program`'s transfer
 program-word : (a n : ℕ) (bytes log : List ℕ) → a + length bytes ≤ 16777215 → length bytes ≤ 240 → length bytes % 4 ≡ 0
@@ -325,11 +301,11 @@ program-same a bytes log few fours =
 
 pub program : (a : ℕ) (bytes log : List ℕ) → Starts (start.programOf a (length bytes) (length log)) bytes log [] no-values (call.program a bytes)
 program a bytes log =
-    either bytes log (ltb 16777215 (a + length bytes)) (λ e. refuses _ bytes log Nowhere (nowhere _ bytes) OutOfRange refl refl refl refl)
-    (λ e. either bytes log (ltb 240 (length bytes)) (λ f. refuses _ bytes log Nowhere (nowhere _ bytes) DataTooLarge refl refl refl refl)
+    either bytes log (ltb 16777215 (a + length bytes)) (λ e. ended-at-start _ bytes log [] OutOfRange refl refl refl refl)
+    (λ e. either bytes log (ltb 240 (length bytes)) (λ f. ended-at-start _ bytes log [] DataTooLarge refl refl refl refl)
     (λ f. either bytes log (eqb (length bytes % 4) 0)
-    (λ g. either bytes log (ltb 256 (a % 256 + length bytes)) (λ h. refuses _ bytes log Nowhere (nowhere _ bytes) CrossesPageBoundary refl refl refl refl)
+    (λ g. either bytes log (ltb 256 (a % 256 + length bytes)) (λ h. ended-at-start _ bytes log [] CrossesPageBoundary refl refl refl refl)
     (λ h. working stage.Program false ProgrammingErrorBitSet 6 a bytes log (length bytes) (call.programming a bytes) refl (λ r. refl)
     (program-same a bytes log (ltb-false 240 (length bytes) f) (eqb-true (length bytes % 4) 0 g))
     (program-word a (length bytes) bytes log (ltb-false 16777215 (a + length bytes) e) (ltb-false 240 (length bytes) f) (eqb-true (length bytes % 4) 0 g)) refl refl (λ st. refl)))
-    (λ g. refuses _ bytes log Nowhere (nowhere _ bytes) NotAligned refl refl refl refl)))
+    (λ g. ended-at-start _ bytes log [] NotAligned refl refl refl refl)))

@@ -17,9 +17,11 @@ use Rattle.qspi_script.specs.declared.Turned.{Turned}
 use Rattle.qspi_operation.specs.declared.Op.{Op}
 use Rattle.qspi_operation.specs.Store.{isReading}
 use Rattle.qspi_operation.specs.Step.{isGoing}
-use Rattle.qspi_calls.specs.Machine.{Transfer, Script, ends, exchange, none, begin}
+use Rattle.qspi_operation.proofs.Verdicts.{no}
+use Rattle.qspi_calls.specs.Machine.{Transfer, Script, ends, exchange, none, begin, State, ended, nothing, want, statusIn, valuesIn}
 use Rattle.qspi_calls.specs.Calls.{short}
 use Rattle.qspi_calls.specs.Starts as start
+use Rattle.qspi_calls.proofs.Tied.{Tie}
 use Rattle.qspi_calls.proofs.Phases.{wire, words, Same, p-drain}
 use Rattle.qspi_calls.proofs.Scripted.{Turns, Scripted, Rel, rel-on, rel-over, script-tie}
 use Rattle.qspi_calls.proofs.Whole.{Starts}
@@ -86,3 +88,33 @@ module _ (job : Job) (p : Place) (buffer : List ℕ) (Values : Status → Wire �
     lent-buffer = b;
     unread = refl;
   }
+
+-- ---- a call that has ended at its start
+
+data Over : Place → Wire → Status → State → Type 0 where
+  over-at : {p : Place} {w : Wire} {a : Status} → isGoing a ≡ false → Over p w a (ended a [] [])
+
+over-tie : (job : Job) (bytes buffer : List ℕ) → Tie job bytes buffer no-values Over
+over-tie job bytes buffer = record {
+  due = λ p w s q. absurd (not-going q);
+  some = λ p w s q e. not-going q;
+  steps = λ p w s v q. absurd (not-going q);
+  over = λ p w a s q g. ended-over q;
+  values = λ p w a s q g. no-values-over q;
+  no-values = λ w. (refl, refl);
+  keeps = λ p w s v q. absurd (not-going q);
+}
+  where
+    not-going : {p : Place} {w : Wire} {s : State} → Over p w Going s → ⊥
+    not-going (over-at g) = no (sym g)
+    ended-over : {p : Place} {w : Wire} {a : Status} {s : State} → Over p w a s → (want s ≡ nothing) × (a ≡ statusIn s)
+    ended-over (over-at g) = (refl, refl)
+    no-values-over : {p : Place} {w : Wire} {a : Status} {s : State} → Over p w a s → valuesIn s ≡ []
+    no-values-over (over-at g) = refl
+
+pub ended-at-start : (job : Job) (bytes log buffer : List ℕ) (a : Status) → isGoing a ≡ false → length bytes ≡ job .lent .«data» → length log ≡ job .lent .log → length buffer ≡ job .lent .buffer
+    → Starts (start.over job a) bytes log buffer no-values (ends a [])
+ended-at-start job bytes log buffer a g d l b = record {
+  job = job; place = _; wire = _; status = a; is = refl; Rel = Over; tie = over-tie job bytes buffer; rel = over-at g;
+  lent-data = d; lent-log = l; lent-buffer = b; unread = refl;
+}
