@@ -1,6 +1,6 @@
 -- The calls that send nothing, each tied to its list of register accesses. Assumes nothing.
 use mathlib.Core.Path.{_≡_, refl, ap, _∙_, sym}
-use mathlib.Core.Bool.{Bool, true, false}
+use mathlib.Core.Bool.{Bool, true, false, cond}
 use mathlib.Core.List.{List, [], _∷_, _++_, map}
 use Prim.Native.Nat.{ℕ}
 use native.Mathlib.Omega.{arith}
@@ -32,7 +32,7 @@ use Rattle.qspi_operation.proofs.Verdicts.{no}
 use Rattle.qspi_calls.specs.Machine.{Action, write, modify, Midway, first, changed, Want, nothing, wantAt, Script, ends, perform, none, State, going, ended, onward, want, next, statusIn, valuesIn, bytesIn, overlaid}
 use Rattle.qspi_calls.specs.Calls as call
 use Rattle.qspi_calls.specs.Calls.{done, refused}
-use Rattle.qspi_calls.specs.Promise.{whenDone}
+use Rattle.qspi_calls.specs.Values.{whenDone}
 use Rattle.qspi_calls.specs.Starts as start
 use Rattle.qspi_calls.proofs.Tied.{asked, after, Tie}
 use Rattle.qspi_calls.proofs.Short.{no-values}
@@ -64,16 +64,9 @@ data LowAt (word : ℕ) : Sequence → Wire → Midway → Action → List Actio
 
 module _ (s : Sequence) (word : ℕ) (log : List ℕ) (vs : List ℕ) (Values : Status → Wire → List ℕ) (value : (w : Wire) → vs ≡ Values Done w)
     (no-value : (w : Wire) → (Values RepliesEnded w ≡ []) × (Values LogFull w ≡ [])) where
-  abbrev job : Job
-  job = start.registersJob s word (length log)
-
-  abbrev then : List ℕ → Script
-  then rs = ends Done vs
-
   data Rel : Place → Wire → Status → State → Type 0 where
-    low-on : {w : Wire} {m : Midway} {a : Action} {l : List Action} → LowAt word s w m a l → Rel here w Going (going m a l [] none then [])
+    low-on : {w : Wire} {m : Midway} {a : Action} {l : List Action} → LowAt word s w m a l → Rel here w Going (going m a l [] none (λ rs. ends Done vs) [])
     low-over : {p : Place} {w : Wire} {a : Status} {us : List ℕ} → isGoing a ≡ false → us ≡ Values a w → Rel p w a (ended a us [])
-
 
 due-at : (s : Sequence) (word n : ℕ) {w : Wire} {m : Midway} {a : Action} {l : List Action} → LowAt word s w m a l → accessOf (start.registersJob s word n) here w [] ≡ asked (wantAt m a)
 due-at s word n i-0 = refl
@@ -189,14 +182,34 @@ module _ (s : Sequence) (word : ℕ) (log : List ℕ) (vs : List ℕ) (Values : 
 
   low-starts : (a : Action) (l : List Action) → LowAt word s (registers 0 0) first a l → Starts (start.registersOf s word (length log)) [] log [] Values (perform a l none (λ rs. ends Done vs))
   low-starts a l q = record {
-    job = job₁; place = here; wire = registers 0 0; status = Going; is = refl; Rel = R; tie = r-tie; rel = low-on q;
-    lent-data = refl; lent-log = refl; lent-buffer = refl; unread = refl;
+    job = job₁;
+    place = here;
+    wire = registers 0 0;
+    status = Going;
+    is = refl;
+    Rel = R;
+    tie = r-tie;
+    rel = low-on q;
+    lent-data = refl;
+    lent-log = refl;
+    lent-buffer = refl;
+    unread = refl;
   }
 
   low-refuses : (a : Status) → isGoing a ≡ false → ((w : Wire) → [] ≡ Values a w) → Starts (start.over job₁ a) [] log [] Values (refused a)
   low-refuses a g h = record {
-    job = job₁; place = _; wire = _; status = a; is = refl; Rel = R; tie = r-tie; rel = low-over g (h _);
-    lent-data = refl; lent-log = refl; lent-buffer = refl; unread = refl;
+    job = job₁;
+    place = _;
+    wire = _;
+    status = a;
+    is = refl;
+    Rel = R;
+    tie = r-tie;
+    rel = low-over g (h _);
+    lent-data = refl;
+    lent-log = refl;
+    lent-buffer = refl;
+    unread = refl;
   }
 
 pub enable-linear-addressing : (word : ℕ) (log : List ℕ) → Starts (start.registersOf EnableLinearAddressing word (length log)) [] log [] no-values (call.enableLinearAddressing word)
@@ -210,7 +223,7 @@ disable log = low-starts Disable 0 log [] no-values (λ w. refl) (λ w. (refl, r
 
 -- the clock word that `initialize` returns where it is done
 abbrev pub clock-value : ClockConfig → Status → Wire → List ℕ
-clock-value c a w = whenDone a (clockControlWord (c .«ref_clk_div») (sourceCode (c .«src_sel»)) 1 ∷ [])
+clock-value c a w = whenDone a (cond (ltb 63 (c .«ref_clk_div»)) 0 (clockControlWord (c .«ref_clk_div») (sourceCode (c .«src_sel»)) 1) ∷ [])
 
 module _ (c : ClockConfig) (phase polarity : Bool) (log : List ℕ) where
   abbrev word : ℕ
@@ -219,14 +232,17 @@ module _ (c : ClockConfig) (phase polarity : Bool) (log : List ℕ) where
   abbrev given : List ℕ
   given = clockControlWord (c .«ref_clk_div») (sourceCode (c .«src_sel»)) 1 ∷ []
 
-  with-loopback : (b : BaudRateConfig) → Starts (start.registersOf (start.initializing b) word (length log)) [] log [] (clock-value c) (perform (write 0x00 word) (map (write 0x38) (loopbackWords b)) none (λ rs. ends Done given))
-  with-loopback WithLoopback = low-starts InitializeWithLoopback word log given (clock-value c) (λ w. refl) (λ w. (refl, refl)) _ _ l-0
-  with-loopback (WithoutLoopback d) = low-starts Initialize word log given (clock-value c) (λ w. refl) (λ w. (refl, refl)) _ _ i-0
+  narrow : ltb 63 (c .«ref_clk_div») ≡ false → (w : Wire) → given ≡ clock-value c Done w
+  narrow e w = rw e
+
+  with-loopback : ltb 63 (c .«ref_clk_div») ≡ false → (b : BaudRateConfig) → Starts (start.registersOf (start.initializing b) word (length log)) [] log [] (clock-value c) (perform (write 0x00 word) (map (write 0x38) (loopbackWords b)) none (λ rs. ends Done given))
+  with-loopback e WithLoopback = low-starts InitializeWithLoopback word log given (clock-value c) (narrow e) (λ w. (refl, refl)) _ _ l-0
+  with-loopback e (WithoutLoopback d) = low-starts Initialize word log given (clock-value c) (narrow e) (λ w. (refl, refl)) _ _ i-0
 
   pub initialize : Starts (start.initializeOf c phase polarity (length log)) [] log [] (clock-value c) (call.initialize c phase polarity)
   initialize = go (ltb 63 (c .«ref_clk_div»)) refl
     where
       go : (b : Bool) → ltb 63 (c .«ref_clk_div») ≡ b → Starts (start.pick b (start.over (start.registersJob Initialize 0 (length log)) FieldTooWide) (start.registersOf (start.initializing (c .«baud_rate_config»)) word (length log))) [] log [] (clock-value c)
           (onward b (refused FieldTooWide) (perform (write 0x00 word) (map (write 0x38) (loopbackWords (c .«baud_rate_config»))) none (λ rs. ends Done given)))
-      go true e = low-refuses Initialize 0 log given (clock-value c) (λ w. refl) (λ w. (refl, refl)) FieldTooWide refl (λ w. refl)
-      go false e = with-loopback (c .«baud_rate_config»)
+      go true e = low-refuses Initialize 0 log (clock-value c Done (registers 0 0)) (clock-value c) (λ w. refl) (λ w. (refl, refl)) FieldTooWide refl (λ w. refl)
+      go false e = with-loopback e (c .«baud_rate_config»)

@@ -19,7 +19,7 @@ use Rattle.qspi_script.specs.declared.Place.{Place}
 use Rattle.qspi_calls.specs.Machine.{Transfer, Script, ends}
 use Rattle.qspi_calls.specs.Calls as call
 use Rattle.qspi_calls.specs.Calls.{top, done}
-use Rattle.qspi_calls.specs.Promise.{whenDone}
+use Rattle.qspi_calls.specs.Values.{whenDone}
 use Rattle.qspi_calls.specs.Starts as start
 use Rattle.qspi_calls.proofs.Phases.{wire, words, Same}
 use Rattle.qspi_calls.proofs.Scripted.{Turns, over}

@@ -56,7 +56,7 @@ module _ (p : Place) (d : ℕ) (bs old : List ℕ) (done : length bs ≡ p .done
       let s : length (q ++ b ∷ []) ≡ suc (length q) = length-append q (b ∷ []) ∙ (let z : length q + 1 ≡ suc (length q) = omega arith in z) in
       let e₁ : bs ++ take (p .chunk) r ≡ q = ap (λ (z : List ℕ). bs ++ z) (take-all (p .chunk) r (omega arith)) in
       let e₂ : bs ++ take (p .chunk) (drop d (l ++ b ∷ [])) ≡ q ++ b ∷ [] =
-              ap (λ (z : List ℕ). bs ++ take (p .chunk) z) (drop-append-le d l (b ∷ []) h) ∙ ap (λ (z : List ℕ). bs ++ z) (take-all (p .chunk) (r ++ b ∷ []) (omega arith)) ∙ sym (append-assoc bs r (b ∷ [])) in
+      ap (λ (z : List ℕ). bs ++ take (p .chunk) z) (drop-append-le d l (b ∷ []) h) ∙ ap (λ (z : List ℕ). bs ++ z) (take-all (p .chunk) (r ++ b ∷ []) (omega arith)) ∙ sym (append-assoc bs r (b ∷ [])) in
       ap (λ (z : List ℕ). set (overlaid z old) ((p .done + (length l - d)) % 2 ^ 64) b) e₁
       ∙ ap (λ (z : ℕ). set (q ++ drop (length q) old) z b) i
       ∙ ap (λ (z : List ℕ). set (q ++ z) (length q) b) c
@@ -72,6 +72,7 @@ module _ (p : Place) (d : ℕ) (bs old : List ℕ) (done : length bs ≡ p .done
       within : (y : Bool) → ltb (length l - d) (p .chunk) ≡ y → d ≤ length l → when y (set (after l) ((p .done + (length l - d)) % 2 ^ 64) b) (after l) ≡ after (l ++ b ∷ [])
       within true f h = inside l b h (ltb-true (length l - d) (p .chunk) f)
       within false f h = beyond l b h (ltb-false (length l - d) (p .chunk) f)
+
       go : (y : Bool) → leb d (length l) ≡ y → when y (when (ltb (length l - d) (p .chunk)) (set (after l) ((p .done + (length l - d)) % 2 ^ 64) b) (after l)) (after l) ≡ after (l ++ b ∷ [])
       go true f = within (ltb (length l - d) (p .chunk)) refl (leb-true d (length l) f)
       go false f = dropped l b (leb-false d (length l) f)
@@ -94,7 +95,7 @@ module _ (p : Place) (d : ℕ) (bs old : List ℕ) (done : length bs ≡ p .done
       let s₂ = one-byte l₂ (i + 2) b₂ (omega arith) in
       let s₃ = one-byte l₃ (i + 3) b₃ (omega arith) in
       let f : l₃ ++ b₃ ∷ [] ≡ l ++ bytesOf v =
-              append-assoc l₂ (b₂ ∷ []) (b₃ ∷ []) ∙ append-assoc l₁ (b₁ ∷ []) (b₂ ∷ b₃ ∷ []) ∙ append-assoc l (b₀ ∷ []) (b₁ ∷ b₂ ∷ b₃ ∷ []) in
+      append-assoc l₂ (b₂ ∷ []) (b₃ ∷ []) ∙ append-assoc l₁ (b₁ ∷ []) (b₂ ∷ b₃ ∷ []) ∙ append-assoc l (b₀ ∷ []) (b₁ ∷ b₂ ∷ b₃ ∷ []) in
       ap (λ (z : List ℕ). storeByte (storeByte (storeByte z p d (i + 1) b₁) p d (i + 2) b₂) p d (i + 3) b₃) s₀
       ∙ ap (λ (z : List ℕ). storeByte (storeByte z p d (i + 2) b₂) p d (i + 3) b₃) s₁
       ∙ ap (λ (z : List ℕ). storeByte z p d (i + 3) b₃) s₂

@@ -90,6 +90,7 @@ module _ (fast dummy : Bool) (a n : ℕ) (log old : List ℕ) (span : a + n ≤ 
     where
       e : (a + d % 2 ^ 32) % 2 ^ 32 ≡ a + d
       e = omega arith
+
       go : (b : Bool) → cond b (call.readCommand true (a + d)) (call.readCommand false (a + d)) ≡ readCommand b (a + d)
       go true = refl
       go false = refl
@@ -243,8 +244,18 @@ module _ (fast dummy : Bool) (a n : ℕ) (log old : List ℕ) (span : a + n ≤ 
       let m : n - 0 ≡ n = omega arith in
       let q = turned n 0 n [] (freshWire phase.DrainStatus) (omega arith) refl m (omega arith) in
       record {
-        job = job; place = at 0; wire = freshWire phase.DrainStatus; status = Going; is = refl; Rel = Rel; tie = r-tie; rel = rw (z, e) at q;
-        lent-data = refl; lent-log = refl; lent-buffer = wide; unread = begun-bytes n a n [];
+        job = job;
+        place = at 0;
+        wire = freshWire phase.DrainStatus;
+        status = Going;
+        is = refl;
+        Rel = Rel;
+        tie = r-tie;
+        rel = rw (z, e) at q;
+        lent-data = refl;
+        lent-log = refl;
+        lent-buffer = wide;
+        unread = begun-bytes n a n [];
       }
 
 pub read : (fast dummy : Bool) (a : ℕ) (log old : List ℕ) → Starts (start.readOf a fast dummy (length old) (length log)) [] log old no-values (call.read fast dummy a (length old))
@@ -254,6 +265,7 @@ read fast dummy a log old = go (ltb 4294967296 (a + length old)) refl
         → Starts (start.pick b (start.over (start.readingJob a fast dummy (length old) (length log)) Done) (start.going (start.readingJob a fast dummy (length old) (length log)) (start.placeAt stage.Read (nextChunk (length old) 0 dummy) 0 0))) [] log old no-values (readFrom (length old) fast dummy a (length old))
     empty true e h = rw (eqb-true (length old) 0 e) (ended-at-start (start.readingJob a fast dummy 0 (length log)) [] log old Done refl refl refl (eqb-true (length old) 0 e))
     empty false e h = read-going fast dummy a (length old) log old h refl (let z : length old ≡ 0 → ⊥ = eqb-false (length old) 0 e in omega (arith, z))
+
     go : (b : Bool) → ltb 4294967296 (a + length old) ≡ b
         → Starts (start.pick b (start.over (start.readingJob a fast dummy (length old) (length log)) AddressSpan) (start.pick (eqb (length old) 0) (start.over (start.readingJob a fast dummy (length old) (length log)) Done) (start.going (start.readingJob a fast dummy (length old) (length log)) (start.placeAt stage.Read (nextChunk (length old) 0 dummy) 0 0)))) [] log old no-values
         (onward b (refused AddressSpan) (readFrom (length old) fast dummy a (length old)))

@@ -29,6 +29,9 @@ use Rattle.qspi_calls.specs.Machine as machine
 use Rattle.qspi_calls.specs.Calls as call
 use Rattle.qspi_calls.specs.Calls.{short, enabling, disabling, clearing, statusReading, configReading, statusWriting, registersWriting, top, done, refused}
 use Rattle.qspi_calls.specs.Starts as start
+use Rattle.qspi_calls.specs.declared.start.Config.{Config}
+use Rattle.qspi_calls.specs.declared.start.Latency.{Latency}
+use Rattle.qspi_calls.specs.declared.start.Latency.the-variants.{AsRead, Code}
 use Rattle.qspi_calls.proofs.Phases.{wire, words, Same, p-drain}
 use Rattle.qspi_calls.proofs.Scripted.{Turns, on, again, over, Scripted, Rel, rel-on, script-tie}
 use Rattle.qspi_calls.proofs.Short.{of-one, same-short, word-short, no-values, ended-at-start}
@@ -44,11 +47,18 @@ Stages = Place → Transfer → (List ℕ → Script) → Type 0
 begins : (job : Job) (bytes log : List ℕ) (At : Stages) → Scripted job bytes [] no-values At → (p : Place) (x : Transfer) (k : List ℕ → Script) → At p x k
     → length bytes ≡ job .lent .«data» → length log ≡ job .lent .log → 0 ≡ job .lent .buffer → Starts (start.going job p) bytes log [] no-values (exchange x k)
 begins job bytes log At s p x k q d l b = record {
-  job = job; place = p; wire = _; status = Going; is = refl;
+  job = job;
+  place = p;
+  wire = _;
+  status = Going;
+  is = refl;
   Rel = Rel job bytes [] no-values At;
   tie = script-tie job bytes [] no-values At s;
   rel = rel-on q p-drain;
-  lent-data = d; lent-log = l; lent-buffer = b; unread = refl;
+  lent-data = d;
+  lent-log = l;
+  lent-buffer = b;
+  unread = refl;
 }
 
 either : (bytes log : List ℕ) (b : Bool) {o₁ o₂ : Op} {c₁ c₂ : Script} → (b ≡ true → Starts o₁ bytes log [] no-values c₁) → (b ≡ false → Starts o₂ bytes log [] no-values c₂)
@@ -309,3 +319,10 @@ program a bytes log =
     (program-same a bytes log (ltb-false 240 (length bytes) f) (eqb-true (length bytes % 4) 0 g))
     (program-word a (length bytes) bytes log (ltb-false 16777215 (a + length bytes) e) (ltb-false 240 (length bytes) f) (eqb-true (length bytes % 4) 0 g)) refl refl (λ st. refl)))
     (λ g. ended-at-start _ bytes log [] NotAligned refl refl refl refl)))
+
+pub new-call : (config : Config) (log : List ℕ) → Starts (start.newOf config (length log)) [] log [] no-values (call.newCall config)
+new-call config log = go (config .«latency_config»)
+  where
+    go : (l : Latency) → Starts (start.newLatency l (config .«set_quad_bit_if_necessary») (config .«clear_write_protection») (length log)) [] log [] no-values (call.newLatency l (config .«set_quad_bit_if_necessary») (config .«clear_write_protection»))
+    go AsRead = new-with (config .«set_quad_bit_if_necessary») false 0 (config .«clear_write_protection») log
+    go (Code c) = new-with (config .«set_quad_bit_if_necessary») true c (config .«clear_write_protection») log

@@ -107,14 +107,26 @@ over-tie job bytes buffer = record {
   where
     not-going : {p : Place} {w : Wire} {s : State} → Over p w Going s → ⊥
     not-going (over-at g) = no (sym g)
+
     ended-over : {p : Place} {w : Wire} {a : Status} {s : State} → Over p w a s → (want s ≡ nothing) × (a ≡ statusIn s)
     ended-over (over-at g) = (refl, refl)
+
     no-values-over : {p : Place} {w : Wire} {a : Status} {s : State} → Over p w a s → valuesIn s ≡ []
     no-values-over (over-at g) = refl
 
 pub ended-at-start : (job : Job) (bytes log buffer : List ℕ) (a : Status) → isGoing a ≡ false → length bytes ≡ job .lent .«data» → length log ≡ job .lent .log → length buffer ≡ job .lent .buffer
     → Starts (start.over job a) bytes log buffer no-values (ends a [])
 ended-at-start job bytes log buffer a g d l b = record {
-  job = job; place = _; wire = _; status = a; is = refl; Rel = Over; tie = over-tie job bytes buffer; rel = over-at g;
-  lent-data = d; lent-log = l; lent-buffer = b; unread = refl;
+  job = job;
+  place = _;
+  wire = _;
+  status = a;
+  is = refl;
+  Rel = Over;
+  tie = over-tie job bytes buffer;
+  rel = over-at g;
+  lent-data = d;
+  lent-log = l;
+  lent-buffer = b;
+  unread = refl;
 }

@@ -13,12 +13,8 @@ use Rattle.qspi_script.specs.declared.Status.{Status}
 use Rattle.qspi_script.specs.declared.Job.{Job}
 use Rattle.qspi_script.specs.declared.Place.{Place}
 use Rattle.qspi_operation.specs.declared.Op.{Op}
-use Rattle.qspi_operation.specs.declared.Stepped.{Stepped}
 use Rattle.qspi_operation.specs.Run.{Run, runOf}
-use Rattle.qspi_operation.specs.Run as run-spec
-use Rattle.qspi_calls.specs.declared.runs.Ran.{Ran}
 use Rattle.qspi_calls.specs.Machine.{Script, State, begin, bytesIn, valuesIn, Result, runs, called, overlaid, readsOf}
-use Rattle.qspi_calls.specs.Promise.{ranOf, loggedOf, bufferedOf, handed, Ended}
 use Rattle.qspi_calls.proofs.Outcome.{Outcome, length-encode, run-short}
 use Rattle.qspi_calls.proofs.Tied.{Tie, op, tied}
 
@@ -27,12 +23,12 @@ pub record Whole (Values : Status → Wire → List ℕ) (e : Run) (log buffer :
   pub answer : e .answer ≡ r .answer
   pub used : e .op .used ≡ 2 * length (r .log)
   pub replies : e .op .replies ≡ readsOf (r .log)
-  pub logged : e .log ≡ loggedOf r log
-  pub stored : e .buffer ≡ bufferedOf r buffer
+  pub logged : e .log ≡ encode (r .log) ++ drop (2 * length (r .log)) log
+  pub stored : e .buffer ≡ overlaid (bytesIn (r .state)) buffer
   pub values : valuesIn (r .state) ≡ Values (e .answer) (e .op .wire)
 
 -- the log over which a run was made
-log-is : (log : List ℕ) (n : ℕ) (s : State) (rs : List ℕ) → n ≡ length log / 2 → sets log 0 (encode (runs n s rs .log)) ≡ loggedOf (runs n s rs) log
+log-is : (log : List ℕ) (n : ℕ) (s : State) (rs : List ℕ) → n ≡ length log / 2 → sets log 0 (encode (runs n s rs .log)) ≡ encode (runs n s rs .log) ++ drop (2 * length (runs n s rs .log)) log
 log-is log n s rs e =
     let l = runs n s rs .log in
     let m = length-encode l in
@@ -70,14 +66,3 @@ whole o bytes rs log buffer Values c fits s =
       stored = y .stored;
       values = y .values;
     })
-
--- ---- for the code
-
--- a call that is lent only a log, or a log and data
-pub promised : (o o₀ : Op) (bytes rs log buffer : List ℕ) (Values : Status → Wire → List ℕ) (c : Script) {s : Stepped} {r : Ran} {log₁ : List ℕ} → length rs < 2 ^ 64 → o ≡ o₀ → Starts o₀ bytes log buffer Values c
-    → Ended s log₁ (runOf o bytes rs buffer log) → r ≡ handed s → (r ≡ ranOf (called c (length log / 2) rs)) × (log₁ ≡ loggedOf (called c (length log / 2) rs) log)
-promised o o₀ bytes rs log buffer Values c {s} {r} {log₁} fits e h n f =
-    let w = whole o₀ bytes rs log buffer Values c fits h in
-    let n′ : Ended s log₁ (runOf o₀ bytes rs buffer log) = rw e at n in
-    let g : handed s ≡ ranOf (called c (length log / 2) rs) = rw (n′ .answer, n′ .op, w .answer, w .used, w .replies) in
-    (f ∙ g, n′ .logged ∙ w .logged)

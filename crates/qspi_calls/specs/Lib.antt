@@ -1,4 +1,4 @@
 pub mod Machine
 pub mod Calls
 pub mod Starts
-pub mod Promise
+pub mod Values

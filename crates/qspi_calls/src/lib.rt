@@ -1,3 +1,3 @@
-// The calls of document 01: how each one starts, and each one run from its start to its end.
-pub mod runs;
+// The calls of document 01: how each one starts. What each one does is said over lists in specs/Calls, and
+// proofs/ ties every start to its script there.
 pub mod start;

@@ -342,14 +342,7 @@ fn out_of_range(addr: u32, length: usize) -> bool
 pub fn erase_sector(addr: u32, log: usize) -> Op
     ensures start { λ r. ⌜ r ≡ spec.eraseSector addr log ⌝ }
 {
-    let job = working(
-        Stage::Erase,
-        true,
-        Status::EraseErrorBitSet,
-        addr,
-        0,
-        log,
-    );
+    let job = working(Stage::Erase, true, Status::EraseErrorBitSet, addr, 0, log);
     if out_of_range(addr, 0x10000) {
         return over(job, Status::OutOfRange);
     }

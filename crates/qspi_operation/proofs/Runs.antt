@@ -159,7 +159,7 @@ ends-in : (n : ℕ) (a : Status) (o : Op) (bytes rs buffer log : List ℕ) (b : 
 unfolding runAt
 ends-in zero a o bytes rs buffer log true e p = absurd (omega arith)
 ends-in zero a o bytes rs buffer log false e p = e
-ends-in (suc n) a o bytes rs buffer log true e p = 
+ends-in (suc n) a o bytes rs buffer log true e p =
     ends-in n (a′ o bytes rs buffer log) (o′ o bytes rs buffer log) bytes rs (buffer′ o bytes rs buffer log) (log′ o bytes rs buffer log) (isGoing (a′ o bytes rs buffer log)) refl (omega (arith, less o bytes rs buffer log))
 ends-in (suc n) a o bytes rs buffer log false e p = e
 

@@ -205,7 +205,14 @@ fn has_room(used: usize, room: usize) -> bool
 }
 
 // 25, then 24, then 23.
-fn judged_going(op: Op, data: &[u8], buffer: usize, room: usize, replies: &[u32], at: usize) -> Verdict
+fn judged_going(
+    op: Op,
+    data: &[u8],
+    buffer: usize,
+    room: usize,
+    replies: &[u32],
+    at: usize,
+) -> Verdict
     ensures verdict { λ r. ⌜ r ≡ going op (now («data» .entry)) buffer room (replyOf (now (replies .entry)) at) ⌝ }
 {
     let job = op.job;
@@ -273,7 +280,10 @@ fn turned(op: Op, used: usize, replies: usize) -> Stepped
             replies,
             status,
         };
-        Stepped { op: next, answer: status }
+        Stepped {
+            op: next,
+            answer: status,
+        }
     } else {
         let next = Op {
             job,
@@ -283,7 +293,10 @@ fn turned(op: Op, used: usize, replies: usize) -> Stepped
             replies,
             status,
         };
-        Stepped { op: next, answer: status }
+        Stepped {
+            op: next,
+            answer: status,
+        }
     }
 }
 

@@ -32,7 +32,13 @@ fn store_reply(buffer: &mut [u8], place: Place, dummy: u32, at: u32, reply: u32)
 {
     store_byte(buffer, place, dummy, at, (reply % 0x100) as u8);
     store_byte(buffer, place, dummy, at + 1, (reply / 0x100 % 0x100) as u8);
-    store_byte(buffer, place, dummy, at + 2, (reply / 0x10000 % 0x100) as u8);
+    store_byte(
+        buffer,
+        place,
+        dummy,
+        at + 2,
+        (reply / 0x10000 % 0x100) as u8,
+    );
     store_byte(buffer, place, dummy, at + 3, (reply / 0x1000000) as u8);
 }
 

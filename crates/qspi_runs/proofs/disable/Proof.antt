@@ -1,0 +1,43 @@
+use denote.Ref.{now}
+use lib.ListN.{length}
+use mathlib.Core.List.{[]}
+use native.Mathlib.Omega.{arith}
+use Rattle.qspi_calls.specs.Calls as call
+use Rattle.qspi_calls.proofs.LowLevelCalls as low
+use Rattle.qspi_calls.proofs.Short.{no-values}
+use Rattle.qspi_runs.proofs.Promised as promise
+use Prim.Native.Nat.{_/_}
+use borrow.Author.Needs.{needs}
+use Rattle.qspi_runs.proofs.disable.Statement.{statement}
+use Rattle.qspi_runs.proofs.disable.Tie as tie
+use Rattle.qspi_runs.proofs.disable.Reads as reads
+use Rattle.qspi_runs.proofs.disable.Lts as lts
+use Rattle.qspi_calls.proofs.start.disable.Reads as disable-reads
+use Rattle.qspi_runs.proofs.finish.Reads as finish-reads
+use Rattle.qspi_runs.proofs.run_command.Reads as run-command-reads
+
+-- src/lib.rt:187:9
+disable-requires : tie.Need-disable-requires
+disable-requires c κs = search needs
+
+-- src/lib.rt:188:12
+run-command-requires : tie.Need-run-command-requires
+run-command-requires c κs = search needs
+
+-- src/lib.rt:188:5
+finish-requires : tie.Need-finish-requires
+finish-requires c κs = search needs
+
+-- src/lib.rt:183:1
+same-length : tie.Need-same-length
+same-length c = search needs
+
+-- src/lib.rt:183:1
+returns : tie.Need-returns
+returns c =
+    let x = c .before .before .before .before .before .before .before .before .args in
+    promise.promised no-values call.disable [] (now (x .replies)) (now (x .log)) [] (omega (arith, c .before .before .before .before .before .before .before .before .good)) (c .before .before .before .before .before .disable .ensures) (low.disable (now (x .log))) (c .before .before .before .run-command .ensures) (c .finish .ensures)
+
+pub disable-spec : {M : Type 1} → statement M
+disable-spec =
+    tie.close (tie.spec disable-requires run-command-requires finish-requires same-length returns)

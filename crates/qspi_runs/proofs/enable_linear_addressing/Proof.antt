@@ -1,0 +1,49 @@
+use denote.Ref.{now}
+use lib.ListN.{length}
+use mathlib.Core.List.{[]}
+use native.Mathlib.Omega.{arith}
+use Rattle.qspi_calls.specs.Calls as call
+use Rattle.qspi_calls.proofs.LowLevelCalls as low
+use Rattle.qspi_calls.proofs.Short.{no-values}
+use Rattle.qspi_runs.proofs.Promised as promise
+use Prim.Native.Nat.{_/_}
+use borrow.Author.Needs.{needs}
+use Rattle.qspi_runs.proofs.enable_linear_addressing.Statement.{statement}
+use Rattle.qspi_runs.proofs.enable_linear_addressing.Tie as tie
+use Rattle.qspi_runs.proofs.enable_linear_addressing.Reads as reads
+use Rattle.qspi_runs.proofs.enable_linear_addressing.Lts as lts
+use Rattle.qspi_calls.proofs.start.enable_linear_addressing.Reads as enable-linear-addressing-reads
+use Rattle.qspi_runs.proofs.finish.Reads as finish-reads
+use Rattle.qspi_runs.proofs.run_command.Reads as run-command-reads
+
+-- src/lib.rt:171:9
+enable-linear-addressing-requires : tie.Need-enable-linear-addressing-requires
+enable-linear-addressing-requires c κs = search needs
+
+-- src/lib.rt:172:12
+run-command-requires : tie.Need-run-command-requires
+run-command-requires c κs = search needs
+
+-- src/lib.rt:172:5
+finish-requires : tie.Need-finish-requires
+finish-requires c κs = search needs
+
+-- src/lib.rt:167:1
+same-length : tie.Need-same-length
+same-length c = search needs
+
+-- src/lib.rt:167:1
+returns : tie.Need-returns
+returns c =
+    let x = c .before .before .before .before .before .before .before .before .args in
+    promise.promised no-values (call.enableLinearAddressing (x .config)) [] (now (x .replies)) (now (x .log)) [] (omega (arith, c .before .before .before .before .before .before .before .before .good)) (c .before .before .before .before .before .enable-linear-addressing .ensures) (low.enable-linear-addressing (x .config) (now (x .log))) (c .before .before .before .run-command .ensures) (c .finish .ensures)
+
+pub enable-linear-addressing-spec : {M : Type 1} → statement M
+enable-linear-addressing-spec =
+    tie.close
+    (tie.spec
+    enable-linear-addressing-requires
+    run-command-requires
+    finish-requires
+    same-length
+    returns)

@@ -1,0 +1,68 @@
+use denote.Ref.{now}
+use lib.ListN.{length}
+use mathlib.Core.List.{[]}
+use mathlib.Core.Path.{ap, _∙_}
+use native.Mathlib.Omega.{arith}
+use Rattle.qspi_calls.specs.Calls as call
+use Rattle.qspi_calls.specs.Machine.{called}
+use Rattle.qspi_calls.proofs.OneTransfer as one
+use Rattle.qspi_runs.proofs.Promised as promise
+use Prim.Native.Nat.{_/_}
+use borrow.Author.Needs.{needs}
+use Rattle.qspi_runs.proofs.read_configuration_register.Statement.{statement}
+use Rattle.qspi_runs.proofs.read_configuration_register.Tie as tie
+use Rattle.qspi_runs.proofs.read_configuration_register.Reads as reads
+use Rattle.qspi_runs.proofs.read_configuration_register.Lts as lts
+use Rattle.qspi_calls.proofs.start.read_configuration_register.Reads as read-configuration-register-reads
+use Rattle.qspi_runs.proofs.finish.Reads as finish-reads
+use Rattle.qspi_runs.proofs.kept.Reads as kept-reads
+use Rattle.qspi_runs.proofs.run_command.Reads as run-command-reads
+use Rattle.zedboard_bsp.proofs.qspi_spansion.words.top_byte.Reads as top-byte-reads
+
+-- src/lib.rt:209:9
+read-configuration-register-requires : tie.Need-read-configuration-register-requires
+read-configuration-register-requires c κs = search needs
+
+-- src/lib.rt:210:9
+run-command-requires : tie.Need-run-command-requires
+run-command-requires c κs = search needs
+
+-- src/lib.rt:214:33
+kept-requires : tie.Need-kept-requires
+kept-requires c κs = search needs
+
+-- src/lib.rt:214:9
+top-byte-requires : tie.Need-top-byte-requires
+top-byte-requires c κs = search needs
+
+-- src/lib.rt:215:9
+finish-requires : tie.Need-finish-requires
+finish-requires c κs = search needs
+
+-- src/lib.rt:205:1
+same-length : tie.Need-same-length
+same-length c = search needs
+
+-- src/lib.rt:205:1
+returns : tie.Need-returns
+returns c =
+    let x = c .before .before .before .before .before .before .before .before .before .before .before .before .args in
+    let y = promise.kept-by one.register-value call.readConfig [] (now (x .replies)) (now (x .log)) [] (omega (arith, c .before .before .before .before .before .before .before .before .before .before .before .before .good)) (c .before .before .before .before .before .before .before .before .before .read-configuration-register .ensures) (one.read-config (now (x .log))) (c .before .before .before .before .before .before .before .run-command .ensures) in (
+      (
+        c .finish .ensures ∙ y .ran,
+        promise.register (c .before .before .before .before .before .before .before .run-command .result) (called call.readConfig (length (now (x .log)) / 2) (now (x .replies))) (c .before .before .kept .ensures) (c .before .top-byte .ensures) (y .values),
+      ),
+      y .logged,
+    )
+
+pub read-configuration-register-spec : {M : Type 1} → statement M
+read-configuration-register-spec =
+    tie.close
+    (tie.spec
+    read-configuration-register-requires
+    run-command-requires
+    kept-requires
+    top-byte-requires
+    finish-requires
+    same-length
+    returns)
