@@ -1,3 +1,4 @@
+-- The sum is compared without being taken, so that it cannot overflow. Assumes nothing.
 use Prim.Native.Nat.{_+_}
 use mathlib.Core.Path.{sym}
 use native.Mathlib.Omega.{arith}

@@ -1,3 +1,4 @@
+-- Two words are written where there is room for two. Assumes nothing.
 use lib.ListN.{length-set}
 use native.Mathlib.Omega.{arith}
 use borrow.Author.Needs.{needs}

@@ -1,3 +1,4 @@
+-- Each turn of the loop is a step; the steps left fall with each access. Assumes nothing.
 use mathlib.Core.Path.{_≡_, refl, sym, ap, _∙_}
 use borrow.Author.Needs.{needs}
 use denote.Ref.{now}

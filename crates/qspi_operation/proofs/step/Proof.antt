@@ -1,3 +1,4 @@
+-- A reply is a list of one word, no reply an empty one. Assumes nothing.
 use denote.Ref.{now}
 use mathlib.Core.Path.{sym}
 use Rattle.qspi_operation.proofs.Verdicts.{replied}

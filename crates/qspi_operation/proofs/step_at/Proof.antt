@@ -1,3 +1,4 @@
+-- State, log and buffer follow from the verdict, and an access is made only where there is room. Assumes nothing.
 use denote.Ref.{now}
 use lib.ListN.{length}
 use mathlib.Core.Path.{sym, ap, _∙_}

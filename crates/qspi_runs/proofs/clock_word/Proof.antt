@@ -1,3 +1,4 @@
+-- The start is tied to its script, so its run is the script's. Assumes nothing.
 use Rattle.qspi_calls.proofs.StartLaws.{worded, too-wide}
 use borrow.Author.Needs.{needs}
 use Rattle.qspi_runs.proofs.clock_word.Statement.{statement}

@@ -1,3 +1,4 @@
+-- The start is tied to its script, so its run is the script's. Assumes nothing.
 use denote.Ref.{now}
 use lib.ListN.{length}
 use mathlib.Core.List.{[]}

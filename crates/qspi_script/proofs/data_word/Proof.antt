@@ -1,3 +1,4 @@
+-- The bound says whether all four bytes are there. Assumes nothing.
 use denote.Ref.{now}
 use lib.ListN.{length}
 use Prim.Native.Nat.{_+_}

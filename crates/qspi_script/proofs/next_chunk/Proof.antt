@@ -1,3 +1,4 @@
+-- What is left is below the largest chunk or not. Assumes nothing.
 use native.Mathlib.Omega.{arith}
 use Prim.Native.Nat.{_-_}
 use Rattle.qspi_script.proofs.ChunkLaws.{all-of, the-largest}

@@ -1,3 +1,4 @@
+-- By what the functions called promise. Assumes nothing.
 use borrow.Author.Tests.{lt-ltb, le-ltb, le-leb, lt-leb, eq-eqb, ne-eqb}
 use borrow.Author.Needs.{needs}
 use Rattle.qspi_script.proofs.protect.Statement.{statement}

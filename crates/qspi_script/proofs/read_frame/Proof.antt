@@ -1,3 +1,4 @@
+-- By what the functions called promise. Assumes nothing.
 use native.Mathlib.Omega.{arith}
 use borrow.Author.Needs.{needs}
 use Rattle.qspi_script.proofs.read_frame.Statement.{statement}

@@ -1,3 +1,4 @@
+-- Rounding up is adding three, and one for a dummy byte. Assumes nothing.
 use native.Mathlib.Omega.{arith}
 use borrow.Author.Needs.{needs}
 use Rattle.qspi_script.proofs.read_words.Statement.{statement}

@@ -1,3 +1,4 @@
+-- Each arm is the definition's clause for its case. Assumes nothing.
 use borrow.Author.Needs.{needs}
 use Rattle.qspi_transfer.proofs.advance.Statement.{statement}
 use Rattle.qspi_transfer.proofs.advance.Tie as tie

@@ -1,3 +1,4 @@
+-- Each branch gives the phase that its test asks for. Assumes nothing.
 use borrow.Author.Tests.{lt-ltb, le-ltb, eq-eqb, ne-eqb}
 use Rattle.qspi_transfer.proofs.below.Statement.{statement}
 use Rattle.qspi_transfer.proofs.below.Tie as tie

@@ -1,3 +1,4 @@
+-- Each branch gives the phase that its test asks for. Assumes nothing.
 use Rattle.qspi_transfer.proofs.either.Statement.{statement}
 use Rattle.qspi_transfer.proofs.either.Tie as tie
 use Rattle.qspi_transfer.proofs.either.Reads as reads

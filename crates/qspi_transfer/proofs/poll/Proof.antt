@@ -1,3 +1,4 @@
+-- Each branch gives the phase that its test asks for. Assumes nothing.
 use borrow.Author.Needs.{needs}
 use Rattle.qspi_transfer.proofs.poll.Statement.{statement}
 use Rattle.qspi_transfer.proofs.poll.Tie as tie

@@ -1,3 +1,4 @@
+-- The count grows by the wrapping add, and the phase is chosen by it. Assumes nothing.
 use borrow.Author.Needs.{needs}
 use Rattle.qspi_transfer.proofs.took.Statement.{statement}
 use Rattle.qspi_transfer.proofs.took.Tie as tie

@@ -1,3 +1,4 @@
+-- The words are those that the clock configuration promises. Assumes nothing.
 use Rattle.qspi_calls.proofs.StartLaws.{worded, too-wide}
 use borrow.Author.Needs.{needs}
 use Rattle.qspi_calls.proofs.start.initialize.Statement.{statement}

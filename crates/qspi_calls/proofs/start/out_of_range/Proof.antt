@@ -1,3 +1,4 @@
+-- A length above the bound alone is out of range, and below it the sum does not overflow. Assumes nothing.
 use Prim.Native.Nat.{_+_}
 use mathlib.Core.Path.{sym}
 use native.Mathlib.Omega.{arith}

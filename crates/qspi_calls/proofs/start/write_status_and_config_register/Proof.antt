@@ -1,3 +1,4 @@
+-- By what the functions called promise, and the tests taken on the way. Assumes nothing.
 use borrow.Author.Tests.{lt-ltb, le-ltb, le-leb, lt-leb, eq-eqb, ne-eqb}
 use borrow.Author.Needs.{needs}
 use Rattle.qspi_calls.proofs.start.write_status_and_config_register.Statement.{statement}

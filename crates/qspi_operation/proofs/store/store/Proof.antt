@@ -1,3 +1,4 @@
+-- Only a reply of a read that is not its first is stored. Assumes nothing.
 use denote.Ref.{now}
 use Rattle.qspi_operation.proofs.FourBytes.{taken-reply}
 use borrow.Author.Tests.{lt-ltb, le-ltb, le-leb, lt-leb, eq-eqb, ne-eqb}

@@ -1,3 +1,4 @@
+-- A byte outside the chunk or the buffer is dropped by the definition too. Assumes nothing.
 use Prim.Native.Nat.{_+_, _-_}
 use mathlib.Core.Path.{sym}
 use denote.Ref.{now}

@@ -1,3 +1,4 @@
+-- Four bytes, one after the other. Assumes nothing.
 use denote.Ref.{now}
 use mathlib.Core.Path.{refl}
 use native.Mathlib.Omega.{arith}

@@ -1,3 +1,4 @@
+-- Bit by bit, by what each bit operation promises. Assumes nothing.
 use borrow.Author.Tests.{lt-ltb, le-ltb, le-leb, lt-leb, eq-eqb, ne-eqb}
 use borrow.Author.Needs.{needs}
 use Rattle.qspi_transfer.proofs.low_level.linear_config.Statement.{statement}
