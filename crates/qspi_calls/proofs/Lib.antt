@@ -11,3 +11,4 @@ pub mod Several
 pub mod LowLevelCalls
 pub mod ReadBytes
 pub mod ReadCalls
+pub mod PromptLogs

@@ -1,3 +1,4 @@
 pub mod FourBytes
 pub mod Verdicts
 pub mod Runs
+pub mod Rules

@@ -1,0 +1,129 @@
+-- On prompt replies the log of a call is a plain list: its transfers one after the other. Assumes nothing.
+use mathlib.Core.Path.{_≡_, refl, ap, _∙_, sym}
+use mathlib.Core.Bool.{Bool, true, false, cond, not, _&&_}
+use mathlib.Core.List.{List, [], _∷_, _++_, map, reverse, reverseAux, reverse-reverse, append-nil}
+use Prim.Native.Nat.{ℕ, zero, suc, _+_}
+use native.Mathlib.Omega.{arith}
+use lib.ListN.{length, length-append}
+use Rattle.zynq7000.specs.Bits.{isSet}
+use Rattle.zynq7000.specs.declared.qspi.Access.{Access}
+use Rattle.zynq7000.specs.declared.qspi.Access.the-variants.{Read, Write}
+use Rattle.qspi_transfer.specs.LowLevel.{chipSelectHigh, started}
+use Rattle.qspi_transfer.specs.Wire.{waits}
+use Rattle.qspi_script.specs.declared.Status.{Status}
+use Rattle.qspi_script.specs.declared.Status.the-variants.{Done, EraseErrorBitSet, ProgrammingErrorBitSet}
+use Rattle.qspi_calls.specs.Machine.{Action, write, drain, reply, Midway, first, again, ready, proceed, Want, reads, writes, Transfer, replicate, Script, ends, exchange, State, going, ended, begin, want, next, Result, halt, logging, made, runs, called}
+use Rattle.qspi_calls.specs.Machine as machine
+use Rattle.qspi_calls.specs.Calls as call
+use Rattle.qspi_calls.specs.Calls.{enabling, statusReading, top, done}
+use Rattle.qspi_calls.specs.Prompt.{Prompt, taking, closing, replying, promptly, repliesOf}
+
+-- a call makes these accesses and stands there afterwards
+data Plays : State → List Access → State → Type 0 where
+  plays-none : {s : State} → Plays s [] s
+  plays-read : {s t : State} {o v : ℕ} {l : List Access} → want s ≡ reads o → Plays (next s v) l t → Plays s (Read o v ∷ l) t
+  plays-write : {s t : State} {o v : ℕ} {l : List Access} → want s ≡ writes o v → Plays (next s v) l t → Plays s (Write o v ∷ l) t
+
+plays-then : {s t u : State} {l m : List Access} → Plays s l t → Plays t m u → Plays s (l ++ m) u
+plays-then plays-none q = q
+plays-then (plays-read e p) q = plays-read e (plays-then p q)
+plays-then (plays-write e p) q = plays-write e (plays-then p q)
+
+-- the run over these replies makes them
+plays-run : {s t : State} (l : List Access) (m : ℕ) (rest : List ℕ) → Plays s l t → (runs (length l + m) s (repliesOf l ++ rest) .log ≡ l ++ runs m t rest .log) × (runs (length l + m) s (repliesOf l ++ rest) .answer ≡ runs m t rest .answer)
+unfolding runs
+plays-run [] m rest plays-none = let e : 0 + m ≡ m = omega arith in rw e (refl, refl)
+plays-run (Read o v ∷ l) m rest (plays-read e p) =
+    let n : suc (length l) + m ≡ suc (length l + m) = omega arith in
+    let h = plays-run l m rest p in
+    rw (n, e) (ap (λ (z : List Access). Read o v ∷ z) (h .0), h .1)
+plays-run (Write o v ∷ l) m rest (plays-write e p) =
+    let n : suc (length l) + m ≡ suc (length l + m) = omega arith in
+    let h = plays-run l m rest p in
+    rw (n, e) (ap (λ (z : List Access). Write o v ∷ z) (h .0), h .1)
+
+module _ (a : Prompt) (brings : List ℕ → List ℕ) (k : List ℕ → Script) (bs : List ℕ) where
+  sends : (port : ℕ) (w : ℕ) (ws : List ℕ) (c : Action) (l : List Action) → Plays (going first (write port w) (map (write port) ws ++ c ∷ l) [] brings k bs) (map (Write port) (w ∷ ws)) (going first c l [] brings k bs)
+  sends port w [] c l = plays-write refl plays-none
+  sends port w (v ∷ ws) c l = plays-write refl (sends port v ws c l)
+
+  closes : (taken : List ℕ) → Plays (going first (machine.modify chipSelectHigh) (write 0x14 0 ∷ []) taken brings k bs) (closing a) (begin (k (reverse taken)) (bs ++ brings (reverse taken)))
+  closes taken = plays-read refl (plays-write refl (plays-write refl plays-none))
+
+  -- a status read with bit 4 set
+  read-first : (twice : Bool) (v : ℕ) (l : List Action) (taken : List ℕ) {m : List Access} {t : State} → waits v ≡ true → Plays (going (cond twice again ready) (reply twice) l taken brings k bs) m t → Plays (next (going first (reply twice) l taken brings k bs) v) m t
+  read-first twice v l taken e p = rw e p
+
+  read-again : (twice : Bool) (v : ℕ) (l : List Action) (taken : List ℕ) {m : List Access} {t : State} → waits v ≡ true → Plays (going ready (reply twice) l taken brings k bs) m t → Plays (next (going again (reply twice) l taken brings k bs) v) m t
+  read-again twice v l taken e p = rw e p
+
+  -- each reply is ready at once
+  takes : (twice : Bool) (r : ℕ) (rs taken : List ℕ) → Plays (going first (reply twice) (replicate (length rs) (reply twice) ++ machine.closing) taken brings k bs) (taking twice (a .ready) (r ∷ rs) ++ closing a) (begin (k (reverse (reverseAux (r ∷ rs) taken))) (bs ++ brings (reverse (reverseAux (r ∷ rs) taken))))
+  takes true r [] taken = plays-read refl (read-first true (a .ready) machine.closing taken (a .is-ready) (plays-read refl (read-again true (a .ready) machine.closing taken (a .is-ready) (plays-read refl (closes (r ∷ taken))))))
+  takes false r [] taken = plays-read refl (read-first false (a .ready) machine.closing taken (a .is-ready) (plays-read refl (closes (r ∷ taken))))
+  takes true r (s ∷ rs) taken =
+      plays-read refl (read-first true (a .ready) (replicate (suc (length rs)) (reply true) ++ machine.closing) taken (a .is-ready)
+      (plays-read refl (read-again true (a .ready) (replicate (suc (length rs)) (reply true) ++ machine.closing) taken (a .is-ready) (plays-read refl (takes true s rs (r ∷ taken))))))
+  takes false r (s ∷ rs) taken =
+      plays-read refl (read-first false (a .ready) (replicate (suc (length rs)) (reply false) ++ machine.closing) taken (a .is-ready) (plays-read refl (takes false s rs (r ∷ taken))))
+
+  takes-all : (twice : Bool) (rs : List ℕ) → Plays (proceed (replicate (length rs) (reply twice) ++ machine.closing) [] brings k bs) (taking twice (a .ready) rs ++ closing a) (begin (k rs) (bs ++ brings rs))
+  takes-all twice [] = closes []
+  takes-all twice (r ∷ rs) =
+      let e : reverse (reverse (r ∷ rs)) ≡ r ∷ rs = reverse-reverse (r ∷ rs) in
+      rw e at (takes twice r rs [])
+
+  not-drained : (v : ℕ) (c : Action) (l : List Action) {m : List Access} {t : State} → waits v ≡ false → Plays (going first c l [] brings k bs) m t → Plays (next (going first drain (c ∷ l) [] brings k bs) v) m t
+  not-drained v c l e p = rw e p
+
+  started-at : (x : Transfer) (rs : List ℕ) → length rs ≡ x .replies → Plays (going first (machine.modify started) (replicate (x .replies) (reply (x .twice)) ++ machine.closing) [] brings k bs) (replying x a rs) (begin (k rs) (bs ++ brings rs))
+  started-at x rs e = rw (← e) (plays-read refl (plays-write refl (takes-all (x .twice) rs)))
+
+  -- a transfer makes the accesses of its plain list, and then stands where its replies lead
+  transfer : (x : Transfer) (rs : List ℕ) → length rs ≡ x .replies → Plays (going first drain (machine.opening x) [] brings k bs) (promptly x a rs) (begin (k rs) (bs ++ brings rs))
+  transfer x rs e =
+      plays-read refl (not-drained (a .idle) _ _ (a .is-idle) (plays-read refl (plays-write refl (plays-write refl
+      (plays-then (sends (x .port) (x .command) (x .further) (machine.modify started) (replicate (x .replies) (reply (x .twice)) ++ machine.closing)) (started-at x rs e))))))
+
+-- ---- calls
+
+-- the log, the answer, and how many replies are used, where there is room and replies enough
+abbrev Logs : Script → List Access → Status → Type 0
+Logs c l s = (m : ℕ) (rest : List ℕ) → (called c (length l + m) (repliesOf l ++ rest) .log ≡ l) × (called c (length l + m) (repliesOf l ++ rest) .answer ≡ s)
+
+over-runs : (m : ℕ) (s : Status) (vs bs rest : List ℕ) → (runs m (ended s vs bs) rest .log ≡ []) × (runs m (ended s vs bs) rest .answer ≡ s)
+unfolding runs
+over-runs zero s vs bs rest = (refl, refl)
+over-runs (suc m) s vs bs rest = (refl, refl)
+
+logs : (c : Script) (l : List Access) (s : Status) (vs bs : List ℕ) → Plays (begin c []) l (ended s vs bs) → Logs c l s
+logs c l s vs bs p m rest =
+    let h = plays-run l m rest p in
+    let g = over-runs m s vs bs rest in
+    (h .0 ∙ ap (λ (z : List Access). l ++ z) (g .0) ∙ append-nil l, h .1 ∙ g .1)
+
+-- a call of one transfer: write enable, write disable, clear status, the register reads, both ids
+pub one-transfer : (x : Transfer) (f : List ℕ → List ℕ) (a : Prompt) (rs : List ℕ) → length rs ≡ x .replies → Logs (exchange x (λ q. ends Done (f q))) (promptly x a rs) Done
+one-transfer x f a rs e = logs (exchange x (λ q. ends Done (f q))) (promptly x a rs) Done (f rs) [] (transfer a machine.none (λ q. ends Done (f q)) [] x rs e)
+
+-- write enable, then one transfer: both register writes
+pub enabled-then : (x : Transfer) (a b : Prompt) (r : ℕ) (rs : List ℕ) → length rs ≡ x .replies → Logs (call.enabledThen x) (promptly enabling a (r ∷ []) ++ promptly x b rs) Done
+enabled-then x a b r rs e =
+    logs (call.enabledThen x) (promptly enabling a (r ∷ []) ++ promptly x b rs) Done [] []
+    (plays-then (transfer a machine.none (λ q. exchange x done) [] enabling (r ∷ []) refl) (transfer b machine.none done [] x rs e))
+
+abbrev settled : ℕ → Status → List ℕ → Script
+settled bit failure q = machine.onward (not (isSet bit (top q)) && isSet 0 (top q)) (call.settling bit failure) (machine.onward (isSet bit (top q)) (call.failing failure) (ends Done []))
+
+-- program and erase: write enable, the work, one status that is clean
+pub worked : (bit : ℕ) (failure : Status) (x : Transfer) (a b c : Prompt) (r s : ℕ) (rs : List ℕ) → length rs ≡ x .replies → isSet bit (top (s ∷ [])) ≡ false → isSet 0 (top (s ∷ [])) ≡ false
+    → Logs (call.working bit failure x) (promptly enabling a (r ∷ []) ++ (promptly x b rs ++ promptly statusReading c (s ∷ []))) Done
+worked bit failure x a b c r s rs e f g =
+    logs (call.working bit failure x) (promptly enabling a (r ∷ []) ++ (promptly x b rs ++ promptly statusReading c (s ∷ []))) Done [] []
+    (plays-then (transfer a machine.none (λ q. exchange x (λ q. call.settling bit failure)) [] enabling (r ∷ []) refl)
+    (plays-then (transfer b machine.none (λ q. call.settling bit failure) [] x rs e) polled))
+  where
+    polled : Plays (begin (call.settling bit failure) []) (promptly statusReading c (s ∷ [])) (ended Done [] [])
+    polled =
+        let p : Plays (begin (call.settling bit failure) []) (promptly statusReading c (s ∷ [])) (begin (settled bit failure (s ∷ [])) []) = transfer c machine.none (settled bit failure) [] statusReading (s ∷ []) refl in
+        rw (f, g) at p
