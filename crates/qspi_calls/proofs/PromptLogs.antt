@@ -1,15 +1,21 @@
 -- On prompt replies the log of a call is a plain list: its transfers one after the other. Assumes nothing.
 use mathlib.Core.Path.{_≡_, refl, ap, _∙_, sym}
-use mathlib.Core.Bool.{Bool, true, false, cond, not, _&&_}
+use mathlib.Core.Bool.{Bool, true, false, cond, not, _&&_, _||_}
 use mathlib.Core.List.{List, [], _∷_, _++_, map, reverse, reverseAux, reverse-reverse, append-nil}
-use Prim.Native.Nat.{ℕ, zero, suc, _+_}
+use Prim.Native.Nat.{ℕ, zero, suc, _+_, _-_, min}
 use native.Mathlib.Omega.{arith}
-use lib.ListN.{length, length-append}
+use lib.Dec.{ltb}
+use lib.ListN.{length}
 use Rattle.zynq7000.specs.Bits.{isSet}
+use Rattle.zynq7000.specs.Qspi.{linearWord}
 use Rattle.zynq7000.specs.declared.qspi.Access.{Access}
 use Rattle.zynq7000.specs.declared.qspi.Access.the-variants.{Read, Write}
-use Rattle.qspi_transfer.specs.LowLevel.{chipSelectHigh, started}
+use Rattle.zynq7000_hal.specs.Presets.{ioModeConfig}
+use Rattle.zedboard_bsp.specs.Registers.{protected}
+use Rattle.zedboard_bsp.specs.Words.{topByte}
+use Rattle.qspi_transfer.specs.LowLevel.{automatic, manual, chipSelectHigh, started}
 use Rattle.qspi_transfer.specs.Wire.{waits}
+use Rattle.qspi_script.specs.Turns.{largestChunk}
 use Rattle.qspi_script.specs.declared.Status.{Status}
 use Rattle.qspi_script.specs.declared.Status.the-variants.{Done, EraseErrorBitSet, ProgrammingErrorBitSet}
 use Rattle.qspi_calls.specs.Machine.{Action, write, drain, reply, Midway, first, again, ready, proceed, Want, reads, writes, Transfer, replicate, Script, ends, exchange, State, going, ended, begin, want, next, Result, halt, logging, made, runs, called}
@@ -127,3 +133,60 @@ worked bit failure x a b c r s rs e f g =
     polled =
         let p : Plays (begin (call.settling bit failure) []) (promptly statusReading c (s ∷ [])) (begin (settled bit failure (s ∷ [])) []) = transfer c machine.none (settled bit failure) [] statusReading (s ∷ []) refl in
         rw (f, g) at p
+
+-- set_write_protection: status, config, write enable, both registers
+pub protected-logs : (p : ℕ) (a b c d : Prompt) (s t r u : ℕ) → ltb 7 p ≡ false
+    → Logs (call.setWriteProtection p) (promptly statusReading a (s ∷ []) ++ (promptly call.configReading b (t ∷ []) ++ (promptly enabling c (r ∷ []) ++ promptly (call.registersWriting (protected (topByte s) p) (topByte t)) d (u ∷ [])))) Done
+protected-logs p a b c d s t r u e =
+    logs (call.setWriteProtection p) _ Done [] []
+    (rw e
+    (plays-then (transfer a machine.none (λ ss. exchange call.configReading (λ cs. call.writeRegisters (protected (top ss) p) (top cs))) [] statusReading (s ∷ []) refl)
+    (plays-then (transfer b machine.none (λ cs. call.writeRegisters (protected (topByte s) p) (top cs)) [] call.configReading (t ∷ []) refl)
+    (plays-then (transfer c machine.none (λ q. exchange (call.registersWriting (protected (topByte s) p) (topByte t)) done) [] enabling (r ∷ []) refl)
+    (transfer d machine.none done [] (call.registersWriting (protected (topByte s) p) (topByte t)) (u ∷ []) refl)))))
+
+-- `new`: clear status alone where nothing is asked for; else config and status; and both registers where they are to change
+module _ (quad setLatency : Bool) (latency : ℕ) (clear : Bool) (narrow : ltb 3 latency ≡ false) (a b c : Prompt) (r t s : ℕ) where
+  pub new-logs : (quad || (setLatency || clear)) ≡ false → Logs (call.newWith quad setLatency latency clear) (promptly call.clearing a (r ∷ [])) Done
+  new-logs e =
+      logs (call.newWith quad setLatency latency clear) _ Done [] []
+      (rw (narrow, e)
+      (rw e at (transfer a machine.none (λ q. machine.onward (quad || (setLatency || clear)) (call.configuring quad setLatency latency clear) (ends Done [])) [] call.clearing (r ∷ []) refl)))
+
+-- ---- the register sequences
+
+pub linear-logs : (word config : ℕ) → Logs (call.enableLinearAddressing word) (Write 0x14 0 ∷ Read 0x00 config ∷ Write 0x00 (automatic config) ∷ Write 0xA0 word ∷ []) Done
+linear-logs word config = logs (call.enableLinearAddressing word) _ Done [] [] (plays-write refl (plays-read refl (plays-write refl (plays-write refl plays-none))))
+
+pub io-mode-logs : (dual : Bool) (config : ℕ)
+    → Logs (call.enableIoMode dual) (Read 0x00 config ∷ Write 0x00 (manual config) ∷ Write 0x2C 1 ∷ Write 0x28 1 ∷ Write 0xA0 (linearWord (ioModeConfig dual)) ∷ []) Done
+io-mode-logs dual config = logs (call.enableIoMode dual) _ Done [] [] (plays-read refl (plays-write refl (plays-write refl (plays-write refl (plays-write refl plays-none)))))
+
+pub disable-logs : (config : ℕ) → Logs call.disable (Write 0x14 0 ∷ Read 0x00 config ∷ Write 0x00 (chipSelectHigh config) ∷ []) Done
+disable-logs config = logs call.disable _ Done [] [] (plays-write refl (plays-read refl (plays-write refl plays-none)))
+
+-- ---- reads: the log of a chunk, then the log of the rest
+
+pub data ReadLog (fast dummy : Bool) : ℕ → ℕ → ℕ → List Access → Type 0 where
+  read-none : {f a : ℕ} → ReadLog fast dummy f a 0 []
+  read-chunk : {f a left : ℕ} {l : List Access} (p : Prompt) (rs : List ℕ) → length rs ≡ suc (call.zeroWords dummy (min (suc left) (largestChunk dummy)))
+      → ReadLog fast dummy f (a + min (suc left) (largestChunk dummy)) (suc left - min (suc left) (largestChunk dummy)) l
+      → ReadLog fast dummy (suc f) a (suc left) (promptly (call.reading fast dummy a (min (suc left) (largestChunk dummy))) p rs ++ l)
+
+-- where a read ends: with some bytes
+record ReadEnds (s : State) (l : List Access) : Type 0 where
+  bytes : List ℕ
+  plays : Plays s l (ended Done [] bytes)
+
+read-plays : (fast dummy : Bool) {f a left : ℕ} {l : List Access} (bs : List ℕ) → ReadLog fast dummy f a left l → ReadEnds (begin (call.readFrom f fast dummy a left) bs) l
+read-plays fast dummy {f = zero} bs read-none = record { bytes = bs; plays = plays-none }
+read-plays fast dummy {f = suc f} bs read-none = record { bytes = bs; plays = plays-none }
+read-plays fast dummy bs (read-chunk {f} {a} {left} p rs e q) =
+    let n = min (suc left) (largestChunk dummy) in
+    let h = read-plays fast dummy (bs ++ call.bytesRead dummy n rs) q in
+    record { bytes = h .bytes; plays = plays-then (transfer p (call.bytesRead dummy n) (λ r. call.readFrom f fast dummy (a + n) (suc left - n)) bs (call.reading fast dummy a n) rs e) (h .plays) }
+
+pub read-logs : (fast dummy : Bool) (a n : ℕ) (l : List Access) → ltb 4294967296 (a + n) ≡ false → ReadLog fast dummy n a n l → Logs (call.read fast dummy a n) l Done
+read-logs fast dummy a n l e q =
+    let h = read-plays fast dummy [] q in
+    logs (call.read fast dummy a n) l Done [] (h .bytes) (rw e (h .plays))
