@@ -7,11 +7,15 @@ use native.Mathlib.Omega.{arith}
 use lib.Dec.{ltb}
 use lib.ListN.{length}
 use Rattle.zynq7000.specs.Bits.{isSet}
-use Rattle.zynq7000.specs.Qspi.{linearWord}
+use Rattle.zynq7000.specs.Qspi.{linearWord, configWord}
+use Rattle.zynq7000.specs.Slcr.{sourceCode, clockControlWord}
 use Rattle.zynq7000.specs.declared.qspi.Access.{Access}
 use Rattle.zynq7000.specs.declared.qspi.Access.the-variants.{Read, Write}
+use Rattle.zynq7000_hal.specs.Clocks.{baudOf}
+use Rattle.zynq7000_hal.specs.Initialize.{initialConfig, loopbackWords}
 use Rattle.zynq7000_hal.specs.Presets.{ioModeConfig}
-use Rattle.zedboard_bsp.specs.Registers.{protected}
+use Rattle.zynq7000_hal.specs.declared.qspi.ClockConfig.{ClockConfig}
+use Rattle.zedboard_bsp.specs.Registers.{protected, configuredCr, configuredSr, updateNeeded}
 use Rattle.zedboard_bsp.specs.Words.{topByte}
 use Rattle.qspi_transfer.specs.LowLevel.{automatic, manual, chipSelectHigh, started}
 use Rattle.qspi_transfer.specs.Wire.{waits}
@@ -190,3 +194,45 @@ pub read-logs : (fast dummy : Bool) (a n : ℕ) (l : List Access) → ltb 429496
 read-logs fast dummy a n l e q =
     let h = read-plays fast dummy [] q in
     logs (call.read fast dummy a n) l Done [] (h .bytes) (rw e (h .plays))
+
+-- ---- `new` where something is asked for
+
+module _ (quad setLatency : Bool) (latency : ℕ) (clear : Bool) (narrow : ltb 3 latency ≡ false) (asked : (quad || (setLatency || clear)) ≡ true) (a b c : Prompt) (r t s : ℕ) where
+  abbrev decided : ℕ → List ℕ → Script
+  decided cr ss = machine.onward (updateNeeded quad setLatency latency clear cr (top ss)) (call.writeRegisters (configuredSr clear (top ss)) (configuredCr quad setLatency latency cr)) (ends Done [])
+
+  -- clear status, config, status, and what they decide
+  reads-both : {l : List Access} {z : State} → Plays (begin (decided (topByte t) (s ∷ [])) []) l z
+      → Plays (begin (call.newWith quad setLatency latency clear) []) (promptly call.clearing a (r ∷ []) ++ (promptly call.configReading b (t ∷ []) ++ (promptly statusReading c (s ∷ []) ++ l))) z
+  reads-both p =
+      rw (narrow, asked)
+      (plays-then (rw asked at (transfer a machine.none (λ q. machine.onward (quad || (setLatency || clear)) (call.configuring quad setLatency latency clear) (ends Done [])) [] call.clearing (r ∷ []) refl))
+      (plays-then (transfer b machine.none (λ cs. exchange statusReading (decided (top cs))) [] call.configReading (t ∷ []) refl)
+      (plays-then (transfer c machine.none (decided (topByte t)) [] statusReading (s ∷ []) refl) p)))
+
+  pub new-reads : updateNeeded quad setLatency latency clear (topByte t) (topByte s) ≡ false
+      → Logs (call.newWith quad setLatency latency clear) (promptly call.clearing a (r ∷ []) ++ (promptly call.configReading b (t ∷ []) ++ (promptly statusReading c (s ∷ []) ++ []))) Done
+  new-reads e = logs (call.newWith quad setLatency latency clear) _ Done [] [] (reads-both (rw e plays-none))
+
+  pub new-writes : (d f : Prompt) (u v : ℕ) → updateNeeded quad setLatency latency clear (topByte t) (topByte s) ≡ true
+      → Logs (call.newWith quad setLatency latency clear)
+      (promptly call.clearing a (r ∷ []) ++ (promptly call.configReading b (t ∷ []) ++ (promptly statusReading c (s ∷ [])
+      ++ (promptly enabling d (u ∷ []) ++ promptly (call.registersWriting (configuredSr clear (topByte s)) (configuredCr quad setLatency latency (topByte t))) f (v ∷ [])))))
+      Done
+  new-writes d f u v e =
+      let x = call.registersWriting (configuredSr clear (topByte s)) (configuredCr quad setLatency latency (topByte t)) in
+      logs (call.newWith quad setLatency latency clear) _ Done [] []
+      (reads-both (rw e (plays-then (transfer d machine.none (λ q. exchange x done) [] enabling (u ∷ []) refl) (transfer f machine.none done [] x (v ∷ []) refl))))
+
+-- ---- initialize
+
+writes-all : (k : List ℕ → Script) (o p w : ℕ) (ws : List ℕ) → Plays (going first (write o w) (map (write p) ws) [] machine.none k []) (Write o w ∷ map (Write p) ws) (begin (k []) [])
+writes-all k o p w [] = plays-write refl plays-none
+writes-all k o p w (v ∷ ws) = plays-write refl (writes-all k p p v ws)
+
+pub initialize-logs : (c : ClockConfig) (phase polarity : Bool) → ltb 63 (c .«ref_clk_div») ≡ false
+    → Logs (call.initialize c phase polarity) (Write 0x00 (configWord (initialConfig (baudOf (c .«baud_rate_config»)) phase polarity)) ∷ map (Write 0x38) (loopbackWords (c .«baud_rate_config»))) Done
+initialize-logs c phase polarity e =
+    logs (call.initialize c phase polarity) _ Done (clockControlWord (c .«ref_clk_div») (sourceCode (c .«src_sel»)) 1 ∷ []) []
+    (rw e
+    (writes-all (λ rs. ends Done (clockControlWord (c .«ref_clk_div») (sourceCode (c .«src_sel»)) 1 ∷ [])) 0x00 0x38 (configWord (initialConfig (baudOf (c .«baud_rate_config»)) phase polarity)) (loopbackWords (c .«baud_rate_config»))))
