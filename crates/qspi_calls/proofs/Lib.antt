@@ -12,3 +12,4 @@ pub mod LowLevelCalls
 pub mod ReadBytes
 pub mod ReadCalls
 pub mod PromptLogs
+pub mod WireOrder
