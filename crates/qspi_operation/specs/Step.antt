@@ -7,7 +7,7 @@ use lib.Dec.{ltb, leb, eqb}
 use lib.ListN.{length, getD, set}
 use Rattle.zynq7000.specs.Bits.{put, clear}
 use Rattle.qspi_transfer.specs.LowLevel.{sequenceDue, chipSelectHigh, chipSelectLow, started}
-use Rattle.qspi_transfer.specs.Wire.{freshWire, wireNext}
+use Rattle.qspi_transfer.specs.Wire.{freshWire, pickWire, wireNext}
 use Rattle.qspi_transfer.specs.declared.Due.{Due}
 use Rattle.qspi_transfer.specs.declared.Due.the-variants as due
 use Rattle.qspi_transfer.specs.declared.Moved.{Moved}
@@ -129,10 +129,6 @@ wentOn o w used replies = record {
   op = record { job = o .job; place = o .place; wire = w; used = used; replies = replies; status = status.Going };
   answer = status.Going;
 }
-
-abbrev pub pickWire : Bool → Wire → Wire → Wire
-pickWire true a b = a
-pickWire false a b = b
 
 -- the next transfer begins afresh
 abbrev pub turnedTo : Op → Turned → ℕ → ℕ → Stepped

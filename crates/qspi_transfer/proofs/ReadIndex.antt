@@ -1,5 +1,5 @@
--- `read_index` never wraps below 240: it grows by 4 while it is below the bytes of replies, which are at most 264 in any transfer and at most 240 in
--- `program`. Assumes nothing.
+-- `read_index` never wraps below 240, which `program` does not pass: a count that a reply is still due to is below the bytes of data. That
+-- no transfer of any call wraps it is part of `took-one` in proofs/Phases of qspi_calls. Assumes nothing.
 use Prim.Native.Nat.{ℕ, _+_, _%_, _^_, _≤_, _<_}
 use mathlib.Core.Path.{_≡_}
 use native.Mathlib.Omega.{arith}
