@@ -8,6 +8,7 @@ pub mod Short
 pub mod OneTransfer
 pub mod ProgramWords
 pub mod Several
+pub mod Pages
 pub mod LowLevelCalls
 pub mod ReadBytes
 pub mod ReadCalls

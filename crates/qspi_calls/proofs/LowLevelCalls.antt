@@ -29,7 +29,7 @@ use Rattle.qspi_operation.specs.declared.Op.{Op}
 use Rattle.qspi_operation.specs.Store.{stored}
 use Rattle.qspi_operation.specs.Step.{isGoing, accessOf}
 use Rattle.qspi_operation.proofs.Verdicts.{no}
-use Rattle.qspi_calls.specs.Machine.{Action, write, modify, Midway, first, changed, Want, nothing, wantAt, Script, ends, perform, none, State, going, ended, onward, want, next, statusIn, valuesIn, bytesIn, overlaid}
+use Rattle.qspi_calls.specs.Machine.{Action, write, modify, Midway, first, changed, Want, nothing, wantAt, Script, ends, perform, none, State, going, ended, onward, want, next, statusIn, valuesIn, bytesIn, countIn, overlaid}
 use Rattle.qspi_calls.specs.Calls as call
 use Rattle.qspi_calls.specs.Calls.{done, refused}
 use Rattle.qspi_calls.specs.Values.{whenDone}
@@ -65,8 +65,8 @@ data LowAt (word : ℕ) : Sequence → Wire → Midway → Action → List Actio
 module _ (s : Sequence) (word : ℕ) (log : List ℕ) (vs : List ℕ) (Values : Status → Wire → List ℕ) (value : (w : Wire) → vs ≡ Values Done w)
     (no-value : (w : Wire) → (Values RepliesEnded w ≡ []) × (Values LogFull w ≡ [])) where
   data Rel : Place → Wire → Status → State → Type 0 where
-    low-on : {w : Wire} {m : Midway} {a : Action} {l : List Action} → LowAt word s w m a l → Rel here w Going (going m a l [] none (λ rs. ends Done vs) [])
-    low-over : {p : Place} {w : Wire} {a : Status} {us : List ℕ} → isGoing a ≡ false → us ≡ Values a w → Rel p w a (ended a us [])
+    low-on : {w : Wire} {m : Midway} {a : Action} {l : List Action} → LowAt word s w m a l → Rel here w Going (going m a l [] none (λ rs. ends Done vs) [] 0)
+    low-over : {p : Place} {w : Wire} {a : Status} {us : List ℕ} → isGoing a ≡ false → us ≡ Values a w → Rel p w a (ended a us [] 0)
 
 due-at : (s : Sequence) (word n : ℕ) {w : Wire} {m : Midway} {a : Action} {l : List Action} → LowAt word s w m a l → accessOf (start.registersJob s word n) here w [] ≡ asked (wantAt m a)
 due-at s word n i-0 = refl
@@ -104,7 +104,7 @@ some-at d-2 e = let z : _≡_ {A = ℕ} 0 1 = cc in omega arith
 
 step-at : (s : Sequence) (word : ℕ) (log vs : List ℕ) (Values : Status → Wire → List ℕ) (value : (w : Wire) → vs ≡ Values Done w) (no-value : (w : Wire) → (Values RepliesEnded w ≡ []) × (Values LogFull w ≡ []))
     {w : Wire} {m : Midway} {a : Action} {l : List Action} (v : ℕ) → LowAt word s w m a l
-    → Rel s word log vs Values value no-value (after (start.registersJob s word (length log)) here w v .place) (after (start.registersJob s word (length log)) here w v .wire) (after (start.registersJob s word (length log)) here w v .status) (next (going m a l [] none (λ rs. ends Done vs) []) v)
+    → Rel s word log vs Values value no-value (after (start.registersJob s word (length log)) here w v .place) (after (start.registersJob s word (length log)) here w v .wire) (after (start.registersJob s word (length log)) here w v .status) (next (going m a l [] none (λ rs. ends Done vs) [] 0) v)
 step-at s word log vs Values value no-value v i-0 = low-over refl (value _)
 step-at s word log vs Values value no-value v l-0 = low-on l-1
 step-at s word log vs Values value no-value v l-1 = low-over refl (value _)
@@ -162,6 +162,10 @@ module _ (s : Sequence) (word : ℕ) (log : List ℕ) (vs : List ℕ) (Values : 
   r-values p w a z (low-on q) e = no (sym e)
   r-values p w a z (low-over g f) e = f
 
+  r-counts : (p : Place) (w : Wire) (a : Status) (z : State) → R p w a z → countIn z ≡ 0
+  r-counts p w a z (low-on q) = refl
+  r-counts p w a z (low-over g f) = refl
+
   r-steps : (p : Place) (w : Wire) (z : State) (v : ℕ) → R p w Going z → R (after job₁ p w v .place) (after job₁ p w v .wire) (after job₁ p w v .status) (next z v)
   r-steps p w z v (low-on q) = step-at s word log vs Values value no-value v q
   r-steps p w z v (low-over g f) = no (sym g)
@@ -178,7 +182,7 @@ module _ (s : Sequence) (word : ℕ) (log : List ℕ) (vs : List ℕ) (Values : 
   r-keeps p w z v q = r-kept p w z v (overlaid (bytesIn z) []) q ∙ ap (λ (b : List ℕ). overlaid b []) (r-bytes q ∙ sym (r-bytes (r-steps p w z v q)))
 
   r-tie : Tie job₁ [] [] Values R
-  r-tie = record { due = r-due; some = r-some; steps = r-steps; over = r-ends; values = r-values; no-values = no-value; keeps = r-keeps }
+  r-tie = record { due = r-due; some = r-some; steps = r-steps; over = r-ends; values = r-values; counts = r-counts; no-values = no-value; keeps = r-keeps }
 
   low-starts : (a : Action) (l : List Action) → LowAt word s (registers 0 0) first a l → Starts (start.registersOf s word (length log)) [] log [] Values (perform a l none (λ rs. ends Done vs))
   low-starts a l q = record {

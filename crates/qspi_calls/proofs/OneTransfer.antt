@@ -45,37 +45,37 @@ module _ (log : List ℕ) where
 
   -- the end of a transfer of one reply
   abbrev Ends : Stage → (Status → Wire → List ℕ) → Transfer → (List ℕ → Script) → ℕ → ℕ → ℕ → List ℕ → Type 0
-  Ends s Values x k c i b t = Turns job [] [] Values (Only (at s) x k) (turnOf job (at s) (getD t 0 0)) (wire phase.Disable c i b t) (k (reverse t))
+  Ends s Values x k c i b t = Turns job [] [] Values (Only (at s) x k) (turnOf job (at s) (getD t 0 0)) (wire phase.Disable c i b t) 0 (k (reverse t))
 
   pub write-enable : Starts (start.oneTransfer stage.Enable (length log)) [] log [] no-values call.writeEnable
   write-enable =
       one-transfer job (at stage.Enable) [] no-values call.enabling done (same-short 0x80 _) (word-short job (at stage.Enable) [] 0x80 _ refl)
-      (λ c i b taken e. of-one taken (Ends stage.Enable no-values call.enabling done c i b) e (λ r. over refl refl refl)) refl (λ w. (refl, refl)) log refl refl refl
+      (λ c i b taken e. of-one taken (Ends stage.Enable no-values call.enabling done c i b) e (λ r. over refl refl refl refl)) refl (λ w. (refl, refl)) log refl refl refl refl
 
   pub write-disable : Starts (start.oneTransfer stage.Disable (length log)) [] log [] no-values call.writeDisable
   write-disable =
       one-transfer job (at stage.Disable) [] no-values call.disabling done (same-short 0x80 _) (word-short job (at stage.Disable) [] 0x80 _ refl)
-      (λ c i b taken e. of-one taken (Ends stage.Disable no-values call.disabling done c i b) e (λ r. over refl refl refl)) refl (λ w. (refl, refl)) log refl refl refl
+      (λ c i b taken e. of-one taken (Ends stage.Disable no-values call.disabling done c i b) e (λ r. over refl refl refl refl)) refl (λ w. (refl, refl)) log refl refl refl refl
 
   pub clear-status : Starts (start.oneTransfer stage.Clear (length log)) [] log [] no-values call.clearStatus
   clear-status =
       one-transfer job (at stage.Clear) [] no-values call.clearing done (same-short 0x80 _) (word-short job (at stage.Clear) [] 0x80 _ refl)
-      (λ c i b taken e. of-one taken (Ends stage.Clear no-values call.clearing done c i b) e (λ r. over refl refl refl)) refl (λ w. (refl, refl)) log refl refl refl
+      (λ c i b taken e. of-one taken (Ends stage.Clear no-values call.clearing done c i b) e (λ r. over refl refl refl refl)) refl (λ w. (refl, refl)) log refl refl refl refl
 
   pub read-status : Starts (start.oneTransfer stage.ReadStatus (length log)) [] log [] register-value call.readStatus
   read-status =
       one-transfer job (at stage.ReadStatus) [] register-value call.statusReading (λ rs. ends Done (top rs ∷ [])) (same-short 0x84 _) (word-short job (at stage.ReadStatus) [] 0x84 _ refl)
-      (λ c i b taken e. of-one taken (Ends stage.ReadStatus register-value call.statusReading (λ rs. ends Done (top rs ∷ [])) c i b) e (λ r. over refl refl refl)) refl (λ w. (refl, refl)) log refl refl refl
+      (λ c i b taken e. of-one taken (Ends stage.ReadStatus register-value call.statusReading (λ rs. ends Done (top rs ∷ [])) c i b) e (λ r. over refl refl refl refl)) refl (λ w. (refl, refl)) log refl refl refl refl
 
   pub read-config : Starts (start.oneTransfer stage.ReadConfig (length log)) [] log [] register-value call.readConfig
   read-config =
       one-transfer job (at stage.ReadConfig) [] register-value call.configReading (λ rs. ends Done (top rs ∷ [])) (same-short 0x84 _) (word-short job (at stage.ReadConfig) [] 0x84 _ refl)
-      (λ c i b taken e. of-one taken (Ends stage.ReadConfig register-value call.configReading (λ rs. ends Done (top rs ∷ [])) c i b) e (λ r. over refl refl refl)) refl (λ w. (refl, refl)) log refl refl refl
+      (λ c i b taken e. of-one taken (Ends stage.ReadConfig register-value call.configReading (λ rs. ends Done (top rs ∷ [])) c i b) e (λ r. over refl refl refl refl)) refl (λ w. (refl, refl)) log refl refl refl refl
 
   pub read-id : Starts (start.oneTransfer stage.ReadId (length log)) [] log [] id-values call.readId
   read-id =
       one-transfer job (at stage.ReadId) [] id-values call.idReading (λ rs. ends Done (replyBytes (getD rs 0 0))) (same-short 0x1C _) (word-short job (at stage.ReadId) [] 0x1C _ refl)
-      (λ c i b taken e. of-one taken (Ends stage.ReadId id-values call.idReading (λ rs. ends Done (replyBytes (getD rs 0 0))) c i b) e (λ r. over refl refl refl)) refl (λ w. (refl, refl)) log refl refl refl
+      (λ c i b taken e. of-one taken (Ends stage.ReadId id-values call.idReading (λ rs. ends Done (replyBytes (getD rs 0 0))) c i b) e (λ r. over refl refl refl refl)) refl (λ w. (refl, refl)) log refl refl refl refl
 
   long-word : (i : ℕ) → i < 3 → dueWord job (at stage.ReadLongId) i [] ≡ getD (words call.longIdReading) i 0
   long-word zero l = refl
@@ -87,5 +87,5 @@ module _ (log : List ℕ) where
   read-long-id =
       one-transfer job (at stage.ReadLongId) [] long-id-values call.longIdReading (λ rs. ends Done (longReplyBytes (getD rs 0 0) (getD rs 1 0) (getD rs 2 0)))
       (record { port = refl; further = refl; bytes = refl; few = omega arith; twice = refl }) long-word
-      (λ c i b taken e. of-three taken (Ends stage.ReadLongId long-id-values call.longIdReading (λ rs. ends Done (longReplyBytes (getD rs 0 0) (getD rs 1 0) (getD rs 2 0))) c i b) e (λ q r s. over refl refl refl))
-      refl (λ w. (refl, refl)) log refl refl refl
+      (λ c i b taken e. of-three taken (Ends stage.ReadLongId long-id-values call.longIdReading (λ rs. ends Done (longReplyBytes (getD rs 0 0) (getD rs 1 0) (getD rs 2 0))) c i b) e (λ q r s. over refl refl refl refl))
+      refl (λ w. (refl, refl)) log refl refl refl refl

@@ -12,8 +12,8 @@ use Rattle.zynq7000.specs.declared.qspi.Access.the-variants as access
 use Rattle.qspi_transfer.specs.declared.Wire.{Wire}
 use Rattle.qspi_script.specs.declared.Status.{Status}
 use Rattle.qspi_operation.specs.Run.{Run}
-use Rattle.qspi_operation.specs.Step.{written}
-use Rattle.qspi_calls.specs.Machine.{Want, reads, writes, nothing, State, want, next, Result, halt, logging, noRoom, made, runs, valuesIn, bytesIn, overlaid, readsOf}
+use Rattle.qspi_operation.specs.Step.{written, programmedOf}
+use Rattle.qspi_calls.specs.Machine.{Want, reads, writes, nothing, State, want, next, Result, halt, logging, noRoom, made, runs, valuesIn, bytesIn, countIn, overlaid, readsOf}
 
 pub length-encode : (l : List Access) → length (encode l) ≡ 2 * length l
 unfolding encode
@@ -52,6 +52,7 @@ pub record Outcome (Values : Status → Wire → List ℕ) (e : Run) (log buffer
   pub logged : e .log ≡ sets log u (encode (r .log))
   pub values : valuesIn (r .state) ≡ Values (e .answer) (e .op .wire)
   pub stored : e .buffer ≡ overlaid (bytesIn (r .state)) buffer₀
+  pub counted : countIn (r .state) ≡ programmedOf (e .op)
 
 abbrev pub isRead : Access → ℕ
 isRead (access.Read o v) = 1
@@ -73,4 +74,5 @@ more Values a e log buffer₀ u i j r h o = record {
   logged = o .logged ∙ two log u (firstWord a) (valueWord a) (encode (r .log));
   values = o .values;
   stored = o .stored;
+  counted = o .counted;
 }

@@ -74,34 +74,34 @@ due-same job p bytes s h (p-closes e) = refl
 due-same job p bytes s h (p-end e) = refl
 
 -- what an access of value v does to a transfer
-pub data Goes (x : Transfer) (brings : List ℕ → List ℕ) (k : List ℕ → Script) (bs : List ℕ) (u : Wire) (taken : List ℕ) : State → Moved → Type 0 where
-  goes-on : {w : Wire} {m : Midway} {a : Action} {l : List Action} {taken′ : List ℕ} → AtPhase x w m a l taken′ → Goes x brings k bs u taken (going m a l taken′ brings k bs) (On w)
-  goes-over : (c i b : ℕ) → u ≡ wire Disable c i b taken → length taken ≡ x .replies → Goes x brings k bs u taken (begin (k (reverse taken)) (bs ++ brings (reverse taken))) Over
+pub data Goes (x : Transfer) (brings : List ℕ → List ℕ) (k : List ℕ → Script) (bs : List ℕ) (n₀ : ℕ) (u : Wire) (taken : List ℕ) : State → Moved → Type 0 where
+  goes-on : {w : Wire} {m : Midway} {a : Action} {l : List Action} {taken′ : List ℕ} → AtPhase x w m a l taken′ → Goes x brings k bs n₀ u taken (going m a l taken′ brings k bs n₀) (On w)
+  goes-over : (c i b : ℕ) → u ≡ wire Disable c i b taken → length taken ≡ x .replies → Goes x brings k bs n₀ u taken (begin (k (reverse taken)) (bs ++ brings (reverse taken)) n₀) Over
 
-module _ (x : Transfer) (brings : List ℕ → List ℕ) (k : List ℕ → Script) (bs : List ℕ) (u : Wire) where
-  drained : (b : Bool) (c : ℕ) → Goes x brings k bs u [] (moves (cond b (stays full) over) drain (opening x) [] brings k bs) (On (wire (choose b DrainData OpenRead) c 0 0 []))
+module _ (x : Transfer) (brings : List ℕ → List ℕ) (k : List ℕ → Script) (bs : List ℕ) (n₀ : ℕ) (u : Wire) where
+  drained : (b : Bool) (c : ℕ) → Goes x brings k bs n₀ u [] (moves (cond b (stays full) over) drain (opening x) [] brings k bs n₀) (On (wire (choose b DrainData OpenRead) c 0 0 []))
   drained true c = goes-on p-data
   drained false c = goes-on p-open
 
   polled : (b t : Bool) (c i n j : ℕ) (taken : List ℕ) → t ≡ x .twice → n ≡ 4 * length taken → length taken + suc j ≡ x .replies
-      → Goes x brings k bs u taken (moves (cond b (stays (cond (x .twice) again ready)) (stays first)) (reply (x .twice)) (replicate j (reply (x .twice)) ++ closing) taken brings k bs) (On (wire (choose b (choose t WaitAgain Take) Wait) c i n taken))
+      → Goes x brings k bs n₀ u taken (moves (cond b (stays (cond (x .twice) again ready)) (stays first)) (reply (x .twice)) (replicate j (reply (x .twice)) ++ closing) taken brings k bs n₀) (On (wire (choose b (choose t WaitAgain Take) Wait) c i n taken))
   polled false t c i n j taken e f g = goes-on (p-wait j f g)
   polled true t c i n j taken e f g = rw e (go (x .twice) refl)
     where
-      go : (y : Bool) → x .twice ≡ y → Goes x brings k bs u taken (going (cond y again ready) (reply (x .twice)) (replicate j (reply (x .twice)) ++ closing) taken brings k bs) (On (wire (choose y WaitAgain Take) c i n taken))
+      go : (y : Bool) → x .twice ≡ y → Goes x brings k bs n₀ u taken (going (cond y again ready) (reply (x .twice)) (replicate j (reply (x .twice)) ++ closing) taken brings k bs n₀) (On (wire (choose y WaitAgain Take) c i n taken))
       go true z = goes-on (p-again j f g)
       go false z = goes-on (p-take j f g)
 
   polled-again : (b : Bool) (c i n j : ℕ) (taken : List ℕ) → n ≡ 4 * length taken → length taken + suc j ≡ x .replies
-      → Goes x brings k bs u taken (moves (cond b (stays ready) (stays first)) (reply (x .twice)) (replicate j (reply (x .twice)) ++ closing) taken brings k bs) (On (wire (choose b Take Wait) c i n taken))
+      → Goes x brings k bs n₀ u taken (moves (cond b (stays ready) (stays first)) (reply (x .twice)) (replicate j (reply (x .twice)) ++ closing) taken brings k bs n₀) (On (wire (choose b Take Wait) c i n taken))
   polled-again true c i n j taken f g = goes-on (p-take j f g)
   polled-again false c i n j taken f g = goes-on (p-wait j f g)
 
   sent-one : (f : Frame) (c i : ℕ) → Same f x → i < length (words x)
-      → Goes x brings k bs u [] (proceed (map (write (x .port)) (drop (suc i) (words x)) ++ replying x) [] brings k bs) (On (wordSent (wire Send c i 0 []) f))
+      → Goes x brings k bs n₀ u [] (proceed (map (write (x .port)) (drop (suc i) (words x)) ++ replying x) [] brings k bs n₀) (On (wordSent (wire Send c i 0 []) f))
   sent-one f c i s h = go (ltb i (f .words)) refl
     where
-      go : (b : Bool) → ltb i (f .words) ≡ b → Goes x brings k bs u [] (proceed (map (write (x .port)) (drop (suc i) (words x)) ++ replying x) [] brings k bs) (On (pickWire b (anotherSent (wire Send c i 0 [])) (atPhase (wire Send c i 0 []) StartRead)))
+      go : (b : Bool) → ltb i (f .words) ≡ b → Goes x brings k bs n₀ u [] (proceed (map (write (x .port)) (drop (suc i) (words x)) ++ replying x) [] brings k bs n₀) (On (pickWire b (anotherSent (wire Send c i 0 [])) (atPhase (wire Send c i 0 []) StartRead)))
       go true e =
           let l : suc i < length (words x) = omega (arith, ltb-true i (f .words) e, s .further) in
           let n : i + 1 ≡ suc i = omega arith in
@@ -111,7 +111,7 @@ module _ (x : Transfer) (brings : List ℕ → List ℕ) (k : List ℕ → Scrip
           rw (drop-of-length-le (x .further) {i = i} l) (goes-on p-start)
 
   took-one : (f : Frame) (c i b j v : ℕ) (taken : List ℕ) → Same f x → b ≡ 4 * length taken → length taken + suc j ≡ x .replies
-      → Goes x brings k bs u taken (proceed (replicate j (reply (x .twice)) ++ closing) (v ∷ taken) brings k bs) (On (replyTaken (wire Take c i b taken) f v))
+      → Goes x brings k bs n₀ u taken (proceed (replicate j (reply (x .twice)) ++ closing) (v ∷ taken) brings k bs n₀) (On (replyTaken (wire Take c i b taken) f v))
   took-one f c i b zero v taken s e g =
       let m : (b + 4) % 2 ^ 32 ≡ b + 4 = omega (arith, s .few) in
       let n : ltb (b + 4) (f .bytes) ≡ false = le-ltb (b + 4) (f .bytes) (omega (arith, s .bytes)) in
@@ -125,10 +125,10 @@ module _ (x : Transfer) (brings : List ℕ → List ℕ) (k : List ℕ → Scrip
       rw (m, n) (goes-on (p-wait j o q))
 
   begun : (f : Frame) (c i : ℕ) → Same f x
-      → Goes x brings k bs u [] (proceed (replicate (x .replies) (reply (x .twice)) ++ closing) [] brings k bs) (On (wire (choose (ltb 0 (f .bytes)) Wait CloseRead) c i 0 []))
+      → Goes x brings k bs n₀ u [] (proceed (replicate (x .replies) (reply (x .twice)) ++ closing) [] brings k bs n₀) (On (wire (choose (ltb 0 (f .bytes)) Wait CloseRead) c i 0 []))
   begun f c i s = go (x .replies) refl
     where
-      go : (n : ℕ) → x .replies ≡ n → Goes x brings k bs u [] (proceed (replicate n (reply (x .twice)) ++ closing) [] brings k bs) (On (wire (choose (ltb 0 (f .bytes)) Wait CloseRead) c i 0 []))
+      go : (n : ℕ) → x .replies ≡ n → Goes x brings k bs n₀ u [] (proceed (replicate n (reply (x .twice)) ++ closing) [] brings k bs n₀) (On (wire (choose (ltb 0 (f .bytes)) Wait CloseRead) c i 0 []))
       go zero e =
           let n : ltb 0 (f .bytes) ≡ false = le-ltb 0 (f .bytes) (omega (arith, s .bytes)) in
           rw n (goes-on (p-close (sym e)))
@@ -137,20 +137,20 @@ module _ (x : Transfer) (brings : List ℕ → List ℕ) (k : List ℕ → Scrip
           let m : ltb 0 (f .bytes) ≡ true = lt-ltb 0 (f .bytes) (omega (arith, s .bytes)) in
           rw m (goes-on (p-wait n {taken = []} refl (z ∙ sym e)))
 
-module _ (x : Transfer) (brings : List ℕ → List ℕ) (k : List ℕ → Script) (bs : List ℕ) where
+module _ (x : Transfer) (brings : List ℕ → List ℕ) (k : List ℕ → Script) (bs : List ℕ) (n₀ : ℕ) where
   pub wire-same : (f : Frame) {w : Wire} {m : Midway} {a : Action} {l : List Action} {taken : List ℕ} (v : ℕ) → Same f x → AtPhase x w m a l taken
-      → Goes x brings k bs w taken (moves (progress m a v) a l taken brings k bs) (wireNext w f v)
-  wire-same f {w} v s (p-drain {c}) = drained x brings k bs w (waits v) c
+      → Goes x brings k bs n₀ w taken (moves (progress m a v) a l taken brings k bs n₀) (wireNext w f v)
+  wire-same f {w} v s (p-drain {c}) = drained x brings k bs n₀ w (waits v) c
   wire-same f v s p-data = goes-on p-drain
   wire-same f v s p-open = goes-on p-opens
   wire-same f v s p-opens = goes-on p-enable
   wire-same f v s p-enable = goes-on (p-send {i = 0} (omega arith))
-  wire-same f {w} v s (p-send {c} {i} h) = sent-one x brings k bs w f c i s h
+  wire-same f {w} v s (p-send {c} {i} h) = sent-one x brings k bs n₀ w f c i s h
   wire-same f v s p-start = goes-on p-starts
-  wire-same f {w} v s (p-starts {v = c} {i}) = begun x brings k bs w f c i s
-  wire-same f {w} v s (p-wait {c} {i} {b} j {taken} e g) = polled x brings k bs w (waits v) (f .twice) c i b j taken (s .twice) e g
-  wire-same f {w} v s (p-again {c} {i} {b} j {taken} e g) = polled-again x brings k bs w (waits v) c i b j taken e g
-  wire-same f {w} v s (p-take {c} {i} {b} j {taken} e g) = took-one x brings k bs w f c i b j v taken s e g
+  wire-same f {w} v s (p-starts {v = c} {i}) = begun x brings k bs n₀ w f c i s
+  wire-same f {w} v s (p-wait {c} {i} {b} j {taken} e g) = polled x brings k bs n₀ w (waits v) (f .twice) c i b j taken (s .twice) e g
+  wire-same f {w} v s (p-again {c} {i} {b} j {taken} e g) = polled-again x brings k bs n₀ w (waits v) c i b j taken e g
+  wire-same f {w} v s (p-take {c} {i} {b} j {taken} e g) = took-one x brings k bs n₀ w f c i b j v taken s e g
   wire-same f {w} v s (p-close e) = goes-on (p-closes e)
   wire-same f {w} v s (p-closes e) = goes-on (p-end e)
   wire-same f v s (p-end {c} {i} {b} e) = goes-over c i b refl e

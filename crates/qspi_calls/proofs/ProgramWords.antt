@@ -1,4 +1,4 @@
--- The data words of `program`: word j of the list is read from the bytes 4 j to 4 j + 3. Assumes nothing.
+-- The data words of `program`: word j of a chunk is read from its bytes 4 j to 4 j + 3 among those lent. Assumes nothing.
 use mathlib.Core.Path.{_≡_, refl, ap, _∙_, sym}
 use mathlib.Core.Bool.{Bool, true, false, cond}
 use mathlib.Core.List.{List, [], _∷_}
@@ -34,9 +34,18 @@ length-words (a ∷ b ∷ []) h = absurd (omega arith)
 length-words (a ∷ b ∷ c ∷ []) h = absurd (omega arith)
 length-words (a ∷ b ∷ c ∷ d ∷ l) h = omega (arith, length-words l (omega arith))
 
-pub data-word : (l : List ℕ) (j : ℕ) → length l ≤ 240 → length l % 4 ≡ 0 → j < length (wordsOf l) → dataWord l ((0 + j * 4) % 2 ^ 64) ≡ getD (wordsOf l) j 0
-data-word l j few fours h =
-    let n = length-words l fours in
-    let e : (0 + j * 4) % 2 ^ 64 ≡ j * 4 = omega arith in
-    let f : leb (j * 4 + 4) (length l) ≡ true = le-leb (j * 4 + 4) (length l) (omega arith) in
-    rw (e, f) (sym (word-at l j (omega arith)))
+-- the bytes c stand in l from byte d on
+pub data-word : (l c : List ℕ) (d j : ℕ) → d + length c ≤ length l → d + length c < 2 ^ 64 → ((i : ℕ) → i < length c → getD c i 0 ≡ getD l (d + i) 0) → length c % 4 ≡ 0 → j < length (wordsOf c)
+    → dataWord l ((d + j * 4) % 2 ^ 64) ≡ getD (wordsOf c) j 0
+data-word l c d j there fits same fours h =
+    let n = length-words c fours in
+    let e : (d + j * 4) % 2 ^ 64 ≡ d + j * 4 = omega arith in
+    let f : leb (d + j * 4 + 4) (length l) ≡ true = le-leb (d + j * 4 + 4) (length l) (omega arith) in
+    let p₁ : d + j * 4 + 1 ≡ d + (j * 4 + 1) = omega arith in
+    let p₂ : d + j * 4 + 2 ≡ d + (j * 4 + 2) = omega arith in
+    let p₃ : d + j * 4 + 3 ≡ d + (j * 4 + 3) = omega arith in
+    let g₀ = same (j * 4) (omega arith) in
+    let g₁ = same (j * 4 + 1) (omega arith) in
+    let g₂ = same (j * 4 + 2) (omega arith) in
+    let g₃ = same (j * 4 + 3) (omega arith) in
+    rw (e, f, p₁, p₂, p₃, ← g₀, ← g₁, ← g₂, ← g₃) (sym (word-at c j (omega arith)))

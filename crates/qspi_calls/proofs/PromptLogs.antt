@@ -52,23 +52,23 @@ plays-run (Write o v ∷ l) m rest (plays-write e p) =
     let h = plays-run l m rest p in
     rw (n, e) (ap (λ (z : List Access). Write o v ∷ z) (h .0), h .1)
 
-module _ (a : Prompt) (brings : List ℕ → List ℕ) (k : List ℕ → Script) (bs : List ℕ) where
-  sends : (port : ℕ) (w : ℕ) (ws : List ℕ) (c : Action) (l : List Action) → Plays (going first (write port w) (map (write port) ws ++ c ∷ l) [] brings k bs) (map (Write port) (w ∷ ws)) (going first c l [] brings k bs)
+module _ (a : Prompt) (brings : List ℕ → List ℕ) (k : List ℕ → Script) (bs : List ℕ) (n : ℕ) where
+  sends : (port : ℕ) (w : ℕ) (ws : List ℕ) (c : Action) (l : List Action) → Plays (going first (write port w) (map (write port) ws ++ c ∷ l) [] brings k bs n) (map (Write port) (w ∷ ws)) (going first c l [] brings k bs n)
   sends port w [] c l = plays-write refl plays-none
   sends port w (v ∷ ws) c l = plays-write refl (sends port v ws c l)
 
-  closes : (taken : List ℕ) → Plays (going first (machine.modify chipSelectHigh) (write 0x14 0 ∷ []) taken brings k bs) (closing a) (begin (k (reverse taken)) (bs ++ brings (reverse taken)))
+  closes : (taken : List ℕ) → Plays (going first (machine.modify chipSelectHigh) (write 0x14 0 ∷ []) taken brings k bs n) (closing a) (begin (k (reverse taken)) (bs ++ brings (reverse taken)) n)
   closes taken = plays-read refl (plays-write refl (plays-write refl plays-none))
 
   -- a status read with bit 4 set
-  read-first : (twice : Bool) (v : ℕ) (l : List Action) (taken : List ℕ) {m : List Access} {t : State} → waits v ≡ true → Plays (going (cond twice again ready) (reply twice) l taken brings k bs) m t → Plays (next (going first (reply twice) l taken brings k bs) v) m t
+  read-first : (twice : Bool) (v : ℕ) (l : List Action) (taken : List ℕ) {m : List Access} {t : State} → waits v ≡ true → Plays (going (cond twice again ready) (reply twice) l taken brings k bs n) m t → Plays (next (going first (reply twice) l taken brings k bs n) v) m t
   read-first twice v l taken e p = rw e p
 
-  read-again : (twice : Bool) (v : ℕ) (l : List Action) (taken : List ℕ) {m : List Access} {t : State} → waits v ≡ true → Plays (going ready (reply twice) l taken brings k bs) m t → Plays (next (going again (reply twice) l taken brings k bs) v) m t
+  read-again : (twice : Bool) (v : ℕ) (l : List Action) (taken : List ℕ) {m : List Access} {t : State} → waits v ≡ true → Plays (going ready (reply twice) l taken brings k bs n) m t → Plays (next (going again (reply twice) l taken brings k bs n) v) m t
   read-again twice v l taken e p = rw e p
 
   -- each reply is ready at once
-  takes : (twice : Bool) (r : ℕ) (rs taken : List ℕ) → Plays (going first (reply twice) (replicate (length rs) (reply twice) ++ machine.closing) taken brings k bs) (taking twice (a .ready) (r ∷ rs) ++ closing a) (begin (k (reverse (reverseAux (r ∷ rs) taken))) (bs ++ brings (reverse (reverseAux (r ∷ rs) taken))))
+  takes : (twice : Bool) (r : ℕ) (rs taken : List ℕ) → Plays (going first (reply twice) (replicate (length rs) (reply twice) ++ machine.closing) taken brings k bs n) (taking twice (a .ready) (r ∷ rs) ++ closing a) (begin (k (reverse (reverseAux (r ∷ rs) taken))) (bs ++ brings (reverse (reverseAux (r ∷ rs) taken))) n)
   takes true r [] taken = plays-read refl (read-first true (a .ready) machine.closing taken (a .is-ready) (plays-read refl (read-again true (a .ready) machine.closing taken (a .is-ready) (plays-read refl (closes (r ∷ taken))))))
   takes false r [] taken = plays-read refl (read-first false (a .ready) machine.closing taken (a .is-ready) (plays-read refl (closes (r ∷ taken))))
   takes true r (s ∷ rs) taken =
@@ -77,20 +77,20 @@ module _ (a : Prompt) (brings : List ℕ → List ℕ) (k : List ℕ → Script)
   takes false r (s ∷ rs) taken =
       plays-read refl (read-first false (a .ready) (replicate (suc (length rs)) (reply false) ++ machine.closing) taken (a .is-ready) (plays-read refl (takes false s rs (r ∷ taken))))
 
-  takes-all : (twice : Bool) (rs : List ℕ) → Plays (proceed (replicate (length rs) (reply twice) ++ machine.closing) [] brings k bs) (taking twice (a .ready) rs ++ closing a) (begin (k rs) (bs ++ brings rs))
+  takes-all : (twice : Bool) (rs : List ℕ) → Plays (proceed (replicate (length rs) (reply twice) ++ machine.closing) [] brings k bs n) (taking twice (a .ready) rs ++ closing a) (begin (k rs) (bs ++ brings rs) n)
   takes-all twice [] = closes []
   takes-all twice (r ∷ rs) =
       let e : reverse (reverse (r ∷ rs)) ≡ r ∷ rs = reverse-reverse (r ∷ rs) in
       rw e at (takes twice r rs [])
 
-  not-drained : (v : ℕ) (c : Action) (l : List Action) {m : List Access} {t : State} → waits v ≡ false → Plays (going first c l [] brings k bs) m t → Plays (next (going first drain (c ∷ l) [] brings k bs) v) m t
+  not-drained : (v : ℕ) (c : Action) (l : List Action) {m : List Access} {t : State} → waits v ≡ false → Plays (going first c l [] brings k bs n) m t → Plays (next (going first drain (c ∷ l) [] brings k bs n) v) m t
   not-drained v c l e p = rw e p
 
-  started-at : (x : Transfer) (rs : List ℕ) → length rs ≡ x .replies → Plays (going first (machine.modify started) (replicate (x .replies) (reply (x .twice)) ++ machine.closing) [] brings k bs) (replying x a rs) (begin (k rs) (bs ++ brings rs))
+  started-at : (x : Transfer) (rs : List ℕ) → length rs ≡ x .replies → Plays (going first (machine.modify started) (replicate (x .replies) (reply (x .twice)) ++ machine.closing) [] brings k bs n) (replying x a rs) (begin (k rs) (bs ++ brings rs) n)
   started-at x rs e = rw (← e) (plays-read refl (plays-write refl (takes-all (x .twice) rs)))
 
   -- a transfer makes the accesses of its plain list, and then stands where its replies lead
-  transfer : (x : Transfer) (rs : List ℕ) → length rs ≡ x .replies → Plays (going first drain (machine.opening x) [] brings k bs) (promptly x a rs) (begin (k rs) (bs ++ brings rs))
+  transfer : (x : Transfer) (rs : List ℕ) → length rs ≡ x .replies → Plays (going first drain (machine.opening x) [] brings k bs n) (promptly x a rs) (begin (k rs) (bs ++ brings rs) n)
   transfer x rs e =
       plays-read refl (not-drained (a .idle) _ _ (a .is-idle) (plays-read refl (plays-write refl (plays-write refl
       (plays-then (sends (x .port) (x .command) (x .further) (machine.modify started) (replicate (x .replies) (reply (x .twice)) ++ machine.closing)) (started-at x rs e))))))
@@ -101,41 +101,41 @@ module _ (a : Prompt) (brings : List ℕ → List ℕ) (k : List ℕ → Script)
 abbrev Logs : Script → List Access → Status → Type 0
 Logs c l s = (m : ℕ) (rest : List ℕ) → (called c (length l + m) (repliesOf l ++ rest) .log ≡ l) × (called c (length l + m) (repliesOf l ++ rest) .answer ≡ s)
 
-over-runs : (m : ℕ) (s : Status) (vs bs rest : List ℕ) → (runs m (ended s vs bs) rest .log ≡ []) × (runs m (ended s vs bs) rest .answer ≡ s)
+over-runs : (m : ℕ) (s : Status) (vs bs : List ℕ) (n : ℕ) (rest : List ℕ) → (runs m (ended s vs bs n) rest .log ≡ []) × (runs m (ended s vs bs n) rest .answer ≡ s)
 unfolding runs
-over-runs zero s vs bs rest = (refl, refl)
-over-runs (suc m) s vs bs rest = (refl, refl)
+over-runs zero s vs bs n rest = (refl, refl)
+over-runs (suc m) s vs bs n rest = (refl, refl)
 
-logs : (c : Script) (l : List Access) (s : Status) (vs bs : List ℕ) → Plays (begin c []) l (ended s vs bs) → Logs c l s
+logs : (c : Script) (l : List Access) (s : Status) (vs bs : List ℕ) → Plays (begin c [] 0) l (ended s vs bs 0) → Logs c l s
 logs c l s vs bs p m rest =
     let h = plays-run l m rest p in
-    let g = over-runs m s vs bs rest in
+    let g = over-runs m s vs bs 0 rest in
     (h .0 ∙ ap (λ (z : List Access). l ++ z) (g .0) ∙ append-nil l, h .1 ∙ g .1)
 
 -- a call of one transfer: write enable, write disable, clear status, the register reads, both ids
 pub one-transfer : (x : Transfer) (f : List ℕ → List ℕ) (a : Prompt) (rs : List ℕ) → length rs ≡ x .replies → Logs (exchange x (λ q. ends Done (f q))) (promptly x a rs) Done
-one-transfer x f a rs e = logs (exchange x (λ q. ends Done (f q))) (promptly x a rs) Done (f rs) [] (transfer a machine.none (λ q. ends Done (f q)) [] x rs e)
+one-transfer x f a rs e = logs (exchange x (λ q. ends Done (f q))) (promptly x a rs) Done (f rs) [] (transfer a machine.none (λ q. ends Done (f q)) [] 0 x rs e)
 
 -- write enable, then one transfer: both register writes
 pub enabled-then : (x : Transfer) (a b : Prompt) (r : ℕ) (rs : List ℕ) → length rs ≡ x .replies → Logs (call.enabledThen x) (promptly enabling a (r ∷ []) ++ promptly x b rs) Done
 enabled-then x a b r rs e =
     logs (call.enabledThen x) (promptly enabling a (r ∷ []) ++ promptly x b rs) Done [] []
-    (plays-then (transfer a machine.none (λ q. exchange x done) [] enabling (r ∷ []) refl) (transfer b machine.none done [] x rs e))
+    (plays-then (transfer a machine.none (λ q. exchange x done) [] 0 enabling (r ∷ []) refl) (transfer b machine.none done [] 0 x rs e))
 
 abbrev settled : ℕ → Status → List ℕ → Script
-settled bit failure q = machine.onward (not (isSet bit (top q)) && isSet 0 (top q)) (call.settling bit failure) (machine.onward (isSet bit (top q)) (call.failing failure) (ends Done []))
+settled bit failure q = machine.onward (not (isSet bit (top q)) && isSet 0 (top q)) (call.settling bit failure (ends Done [])) (machine.onward (isSet bit (top q)) (call.failing failure) (ends Done []))
 
 -- program and erase: write enable, the work, one status that is clean
 pub worked : (bit : ℕ) (failure : Status) (x : Transfer) (a b c : Prompt) (r s : ℕ) (rs : List ℕ) → length rs ≡ x .replies → isSet bit (top (s ∷ [])) ≡ false → isSet 0 (top (s ∷ [])) ≡ false
-    → Logs (call.working bit failure x) (promptly enabling a (r ∷ []) ++ (promptly x b rs ++ promptly statusReading c (s ∷ []))) Done
+    → Logs (call.working bit failure x (ends Done [])) (promptly enabling a (r ∷ []) ++ (promptly x b rs ++ promptly statusReading c (s ∷ []))) Done
 worked bit failure x a b c r s rs e f g =
-    logs (call.working bit failure x) (promptly enabling a (r ∷ []) ++ (promptly x b rs ++ promptly statusReading c (s ∷ []))) Done [] []
-    (plays-then (transfer a machine.none (λ q. exchange x (λ q. call.settling bit failure)) [] enabling (r ∷ []) refl)
-    (plays-then (transfer b machine.none (λ q. call.settling bit failure) [] x rs e) polled))
+    logs (call.working bit failure x (ends Done [])) (promptly enabling a (r ∷ []) ++ (promptly x b rs ++ promptly statusReading c (s ∷ []))) Done [] []
+    (plays-then (transfer a machine.none (λ q. exchange x (λ q. call.settling bit failure (ends Done []))) [] 0 enabling (r ∷ []) refl)
+    (plays-then (transfer b machine.none (λ q. call.settling bit failure (ends Done [])) [] 0 x rs e) polled))
   where
-    polled : Plays (begin (call.settling bit failure) []) (promptly statusReading c (s ∷ [])) (ended Done [] [])
+    polled : Plays (begin (call.settling bit failure (ends Done [])) [] 0) (promptly statusReading c (s ∷ [])) (ended Done [] [] 0)
     polled =
-        let p : Plays (begin (call.settling bit failure) []) (promptly statusReading c (s ∷ [])) (begin (settled bit failure (s ∷ [])) []) = transfer c machine.none (settled bit failure) [] statusReading (s ∷ []) refl in
+        let p : Plays (begin (call.settling bit failure (ends Done [])) [] 0) (promptly statusReading c (s ∷ [])) (begin (settled bit failure (s ∷ [])) [] 0) = transfer c machine.none (settled bit failure) [] 0 statusReading (s ∷ []) refl in
         rw (f, g) at p
 
 -- set_write_protection: status, config, write enable, both registers
@@ -144,10 +144,10 @@ pub protected-logs : (p : ℕ) (a b c d : Prompt) (s t r u : ℕ) → ltb 7 p �
 protected-logs p a b c d s t r u e =
     logs (call.setWriteProtection p) _ Done [] []
     (rw e
-    (plays-then (transfer a machine.none (λ ss. exchange call.configReading (λ cs. call.writeRegisters (protected (top ss) p) (top cs))) [] statusReading (s ∷ []) refl)
-    (plays-then (transfer b machine.none (λ cs. call.writeRegisters (protected (topByte s) p) (top cs)) [] call.configReading (t ∷ []) refl)
-    (plays-then (transfer c machine.none (λ q. exchange (call.registersWriting (protected (topByte s) p) (topByte t)) done) [] enabling (r ∷ []) refl)
-    (transfer d machine.none done [] (call.registersWriting (protected (topByte s) p) (topByte t)) (u ∷ []) refl)))))
+    (plays-then (transfer a machine.none (λ ss. exchange call.configReading (λ cs. call.writeRegisters (protected (top ss) p) (top cs))) [] 0 statusReading (s ∷ []) refl)
+    (plays-then (transfer b machine.none (λ cs. call.writeRegisters (protected (topByte s) p) (top cs)) [] 0 call.configReading (t ∷ []) refl)
+    (plays-then (transfer c machine.none (λ q. exchange (call.registersWriting (protected (topByte s) p) (topByte t)) done) [] 0 enabling (r ∷ []) refl)
+    (transfer d machine.none done [] 0 (call.registersWriting (protected (topByte s) p) (topByte t)) (u ∷ []) refl)))))
 
 -- `new`: clear status alone where nothing is asked for; else config and status; and both registers where they are to change
 module _ (quad setLatency : Bool) (latency : ℕ) (clear : Bool) (narrow : ltb 3 latency ≡ false) (a b c : Prompt) (r t s : ℕ) where
@@ -155,7 +155,7 @@ module _ (quad setLatency : Bool) (latency : ℕ) (clear : Bool) (narrow : ltb 3
   new-logs e =
       logs (call.newWith quad setLatency latency clear) _ Done [] []
       (rw (narrow, e)
-      (rw e at (transfer a machine.none (λ q. machine.onward (quad || (setLatency || clear)) (call.configuring quad setLatency latency clear) (ends Done [])) [] call.clearing (r ∷ []) refl)))
+      (rw e at (transfer a machine.none (λ q. machine.onward (quad || (setLatency || clear)) (call.configuring quad setLatency latency clear) (ends Done [])) [] 0 call.clearing (r ∷ []) refl)))
 
 -- ---- the register sequences
 
@@ -180,15 +180,15 @@ pub data ReadLog (fast dummy : Bool) : ℕ → ℕ → ℕ → List Access → T
 -- where a read ends: with some bytes
 record ReadEnds (s : State) (l : List Access) : Type 0 where
   bytes : List ℕ
-  plays : Plays s l (ended Done [] bytes)
+  plays : Plays s l (ended Done [] bytes 0)
 
-read-plays : (fast dummy : Bool) {f a left : ℕ} {l : List Access} (bs : List ℕ) → ReadLog fast dummy f a left l → ReadEnds (begin (call.readFrom f fast dummy a left) bs) l
+read-plays : (fast dummy : Bool) {f a left : ℕ} {l : List Access} (bs : List ℕ) → ReadLog fast dummy f a left l → ReadEnds (begin (call.readFrom f fast dummy a left) bs 0) l
 read-plays fast dummy {f = zero} bs read-none = record { bytes = bs; plays = plays-none }
 read-plays fast dummy {f = suc f} bs read-none = record { bytes = bs; plays = plays-none }
 read-plays fast dummy bs (read-chunk {f} {a} {left} p rs e q) =
     let n = min (suc left) (largestChunk dummy) in
     let h = read-plays fast dummy (bs ++ call.bytesRead dummy n rs) q in
-    record { bytes = h .bytes; plays = plays-then (transfer p (call.bytesRead dummy n) (λ r. call.readFrom f fast dummy (a + n) (suc left - n)) bs (call.reading fast dummy a n) rs e) (h .plays) }
+    record { bytes = h .bytes; plays = plays-then (transfer p (call.bytesRead dummy n) (λ r. call.readFrom f fast dummy (a + n) (suc left - n)) bs 0 (call.reading fast dummy a n) rs e) (h .plays) }
 
 pub read-logs : (fast dummy : Bool) (a n : ℕ) (l : List Access) → ltb 4294967296 (a + n) ≡ false → ReadLog fast dummy n a n l → Logs (call.read fast dummy a n) l Done
 read-logs fast dummy a n l e q =
@@ -202,13 +202,13 @@ module _ (quad setLatency : Bool) (latency : ℕ) (clear : Bool) (narrow : ltb 3
   decided cr ss = machine.onward (updateNeeded quad setLatency latency clear cr (top ss)) (call.writeRegisters (configuredSr clear (top ss)) (configuredCr quad setLatency latency cr)) (ends Done [])
 
   -- clear status, config, status, and what they decide
-  reads-both : {l : List Access} {z : State} → Plays (begin (decided (topByte t) (s ∷ [])) []) l z
-      → Plays (begin (call.newWith quad setLatency latency clear) []) (promptly call.clearing a (r ∷ []) ++ (promptly call.configReading b (t ∷ []) ++ (promptly statusReading c (s ∷ []) ++ l))) z
+  reads-both : {l : List Access} {z : State} → Plays (begin (decided (topByte t) (s ∷ [])) [] 0) l z
+      → Plays (begin (call.newWith quad setLatency latency clear) [] 0) (promptly call.clearing a (r ∷ []) ++ (promptly call.configReading b (t ∷ []) ++ (promptly statusReading c (s ∷ []) ++ l))) z
   reads-both p =
       rw (narrow, asked)
-      (plays-then (rw asked at (transfer a machine.none (λ q. machine.onward (quad || (setLatency || clear)) (call.configuring quad setLatency latency clear) (ends Done [])) [] call.clearing (r ∷ []) refl))
-      (plays-then (transfer b machine.none (λ cs. exchange statusReading (decided (top cs))) [] call.configReading (t ∷ []) refl)
-      (plays-then (transfer c machine.none (decided (topByte t)) [] statusReading (s ∷ []) refl) p)))
+      (plays-then (rw asked at (transfer a machine.none (λ q. machine.onward (quad || (setLatency || clear)) (call.configuring quad setLatency latency clear) (ends Done [])) [] 0 call.clearing (r ∷ []) refl))
+      (plays-then (transfer b machine.none (λ cs. exchange statusReading (decided (top cs))) [] 0 call.configReading (t ∷ []) refl)
+      (plays-then (transfer c machine.none (decided (topByte t)) [] 0 statusReading (s ∷ []) refl) p)))
 
   pub new-reads : updateNeeded quad setLatency latency clear (topByte t) (topByte s) ≡ false
       → Logs (call.newWith quad setLatency latency clear) (promptly call.clearing a (r ∷ []) ++ (promptly call.configReading b (t ∷ []) ++ (promptly statusReading c (s ∷ []) ++ []))) Done
@@ -222,11 +222,11 @@ module _ (quad setLatency : Bool) (latency : ℕ) (clear : Bool) (narrow : ltb 3
   new-writes d f u v e =
       let x = call.registersWriting (configuredSr clear (topByte s)) (configuredCr quad setLatency latency (topByte t)) in
       logs (call.newWith quad setLatency latency clear) _ Done [] []
-      (reads-both (rw e (plays-then (transfer d machine.none (λ q. exchange x done) [] enabling (u ∷ []) refl) (transfer f machine.none done [] x (v ∷ []) refl))))
+      (reads-both (rw e (plays-then (transfer d machine.none (λ q. exchange x done) [] 0 enabling (u ∷ []) refl) (transfer f machine.none done [] 0 x (v ∷ []) refl))))
 
 -- ---- initialize
 
-writes-all : (k : List ℕ → Script) (o p w : ℕ) (ws : List ℕ) → Plays (going first (write o w) (map (write p) ws) [] machine.none k []) (Write o w ∷ map (Write p) ws) (begin (k []) [])
+writes-all : (k : List ℕ → Script) (o p w : ℕ) (ws : List ℕ) → Plays (going first (write o w) (map (write p) ws) [] machine.none k [] 0) (Write o w ∷ map (Write p) ws) (begin (k []) [] 0)
 writes-all k o p w [] = plays-write refl plays-none
 writes-all k o p w (v ∷ ws) = plays-write refl (writes-all k p p v ws)
 

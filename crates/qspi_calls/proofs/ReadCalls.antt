@@ -28,7 +28,7 @@ use Rattle.qspi_operation.specs.Store.{stored, skipped, storeReply}
 use Rattle.qspi_operation.specs.Step.{isGoing, accessOf, movedBy, turnedTo}
 use Rattle.qspi_operation.proofs.Verdicts.{no}
 use Rattle.qspi_transfer.specs.Wire.{waits, freshWire}
-use Rattle.qspi_calls.specs.Machine.{Action, write, drain, reply, Midway, first, full, again, ready, stays, over, replicate, closing, replying, proceed, Want, nothing, progress, Transfer, Script, ends, perform, State, going, ended, onward, begin, moves, want, next, statusIn, valuesIn, bytesIn, overlaid}
+use Rattle.qspi_calls.specs.Machine.{Action, write, drain, reply, Midway, first, full, again, ready, stays, over, replicate, closing, replying, proceed, Want, nothing, progress, Transfer, Script, ends, perform, State, going, ended, onward, begin, moves, want, next, statusIn, valuesIn, bytesIn, countIn, overlaid}
 use Rattle.qspi_calls.specs.Calls as call
 use Rattle.qspi_calls.specs.Calls.{zeros, zeroWords, reading, readCommand, bytesOfAll, bytesRead, readFrom, refused}
 use Rattle.qspi_calls.specs.Starts as start
@@ -74,8 +74,8 @@ module _ (fast dummy : Bool) (a n : ℕ) (log old : List ℕ) (span : a + n ≤ 
 
   data Rel : Place → Wire → Status → State → Type 0 where
     rel-on : {p : Place} {w : Wire} {x : Transfer} {brings : List ℕ → List ℕ} {k : List ℕ → Script} {bs : List ℕ} {m : Midway} {c : Action} {l : List Action} {taken : List ℕ} → ReadAt p x brings k bs → AtPhase x w m c l taken
-        → Rel p w Going (going m c l taken brings k bs)
-    rel-over : {p : Place} {w : Wire} {s : Status} {bs : List ℕ} → isGoing s ≡ false → Rel p w s (ended s [] bs)
+        → Rel p w Going (going m c l taken brings k bs 0)
+    rel-over : {p : Place} {w : Wire} {s : Status} {bs : List ℕ} → isGoing s ≡ false → Rel p w s (ended s [] bs 0)
 
   chunk-le : (d : ℕ) → chunk d ≤ 248
   chunk-le d = omega (arith, flag-le dummy)
@@ -118,13 +118,13 @@ module _ (fast dummy : Bool) (a n : ℕ) (log old : List ℕ) (span : a + n ≤ 
 
   -- the next chunk, or the end
   turned : (f d left : ℕ) (bs : List ℕ) (w : Wire) → d ≤ n → length bs ≡ d → n - d ≡ left → left ≤ f
-      → Rel (pickNext (at d) .place) (turnedTo (o (at d) w) (pickNext (at d)) 0 0 .op .wire) (pickNext (at d) .status) (begin (readFrom f fast dummy (a + d) left) bs)
+      → Rel (pickNext (at d) .place) (turnedTo (o (at d) w) (pickNext (at d)) 0 0 .op .wire) (pickNext (at d) .status) (begin (readFrom f fast dummy (a + d) left) bs 0)
   turned f d zero bs w h e g l =
       let c : chunk d ≡ 0 = omega arith in
       let z : eqb (chunk d) 0 ≡ true = eq-eqb (chunk d) 0 c in
       rw z (go f)
     where
-      go : (f : ℕ) → Rel (finish (at d) Done .place) w Done (begin (readFrom f fast dummy (a + d) 0) bs)
+      go : (f : ℕ) → Rel (finish (at d) Done .place) w Done (begin (readFrom f fast dummy (a + d) 0) bs 0)
       go zero = rel-over refl
       go (suc f) = rel-over refl
   turned zero d (suc left) bs w h e g l = absurd (omega arith)
@@ -136,7 +136,7 @@ module _ (fast dummy : Bool) (a n : ℕ) (log old : List ℕ) (span : a + n ≤ 
 
   turn-at : (f d : ℕ) (bs : List ℕ) (c i b : ℕ) (taken : List ℕ) → d < n → length bs ≡ d → n - d ≤ suc f → length taken ≡ suc (zeroWords dummy (chunk d))
       → Rel (readOn job (at d) .place) (turnedTo (o (at d) (wire phase.Disable c i b taken)) (readOn job (at d)) 0 0 .op .wire) (readOn job (at d) .status)
-      (begin (readFrom f fast dummy (a + d + chunk d) (n - d - chunk d)) (bs ++ bytesRead dummy (chunk d) (reverse taken)))
+      (begin (readFrom f fast dummy (a + d + chunk d) (n - d - chunk d)) (bs ++ bytesRead dummy (chunk d) (reverse taken)) 0)
   turn-at f d bs c i b taken h e g t =
       let m : (d + chunk d) % 2 ^ 64 ≡ d + chunk d = omega arith in
       let q : a + d + chunk d ≡ a + (d + chunk d) = omega arith in
@@ -145,7 +145,7 @@ module _ (fast dummy : Bool) (a n : ℕ) (log old : List ℕ) (span : a + n ≤ 
       rw (m, q, r)
       (turned f (d + chunk d) (n - (d + chunk d)) (bs ++ bytesRead dummy (chunk d) (reverse taken)) (wire phase.Disable c i b taken) (omega arith) y refl (omega (arith, flag-le dummy)))
 
-  rel-moved : {p : Place} {x : Transfer} {brings : List ℕ → List ℕ} {k : List ℕ → Script} {bs : List ℕ} {w : Wire} {taken : List ℕ} {z : State} {y : Moved} → ReadAt p x brings k bs → Goes x brings k bs w taken z y
+  rel-moved : {p : Place} {x : Transfer} {brings : List ℕ → List ℕ} {k : List ℕ → Script} {bs : List ℕ} {w : Wire} {taken : List ℕ} {z : State} {y : Moved} → ReadAt p x brings k bs → Goes x brings k bs 0 w taken z y
       → Rel (movedBy y (o p w) 0 0 .op .place) (movedBy y (o p w) 0 0 .op .wire) (movedBy y (o p w) 0 0 .op .status) z
   rel-moved q (goes-on g) = rel-on q g
   rel-moved {taken = taken} (read-at {f} {d} {bs} h e g) (goes-over c i b u t) = rw u (turn-at f d bs c i b taken h e g t)
@@ -159,7 +159,7 @@ module _ (fast dummy : Bool) (a n : ℕ) (log old : List ℕ) (span : a + n ≤ 
   r-some p w z (rel-over g) e = no (sym g)
 
   r-steps : (p : Place) (w : Wire) (z : State) (v : ℕ) → Rel p w Going z → Rel (after job p w v .place) (after job p w v .wire) (after job p w v .status) (next z v)
-  r-steps p w z v (rel-on {x = x} {brings = brings} {k = k} {bs = bs} q h) = rel-moved q (wire-same x brings k bs (frameOf job p) v (same q) h)
+  r-steps p w z v (rel-on {x = x} {brings = brings} {k = k} {bs = bs} q h) = rel-moved q (wire-same x brings k bs 0 (frameOf job p) v (same q) h)
   r-steps p w z v (rel-over g) = no (sym g)
 
   r-ends : (p : Place) (w : Wire) (s : Status) (z : State) → Rel p w s z → isGoing s ≡ false → (want z ≡ nothing) × (s ≡ statusIn z)
@@ -170,10 +170,14 @@ module _ (fast dummy : Bool) (a n : ℕ) (log old : List ℕ) (span : a + n ≤ 
   r-values p w s z (rel-on q h) e = no (sym e)
   r-values p w s z (rel-over g) e = refl
 
+  r-counts : (p : Place) (w : Wire) (s : Status) (z : State) → Rel p w s z → countIn z ≡ 0
+  r-counts p w s z (rel-on q h) = refl
+  r-counts p w s z (rel-over g) = refl
+
   -- ---- the buffer
 
   -- where the next chunk begins nothing of it is there yet
-  begun-bytes : (f : ℕ) (a left : ℕ) (bs : List ℕ) → bytesIn (begin (readFrom f fast dummy a left) bs) ≡ bs
+  begun-bytes : (f : ℕ) (a left : ℕ) (bs : List ℕ) → bytesIn (begin (readFrom f fast dummy a left) bs 0) ≡ bs
   begun-bytes zero a left bs = refl
   begun-bytes (suc f) a zero bs = refl
   begun-bytes (suc f) a (suc left) bs = ap (λ (z : List ℕ). bs ++ z) (nothing-yet (min (suc left) (largestChunk dummy))) ∙ append-nil bs
@@ -195,18 +199,18 @@ module _ (fast dummy : Bool) (a n : ℕ) (log old : List ℕ) (span : a + n ≤ 
 
   -- an access that takes no reply brings nothing
   module _ {p : Place} {x : Transfer} {brings : List ℕ → List ℕ} {k : List ℕ → Script} {bs : List ℕ} (q : ReadAt p x brings k bs) (taken : List ℕ) where
-    over-bytes : (l : List Action) → bytesIn (proceed l taken brings k bs) ≡ bs ++ brings (reverse taken)
+    over-bytes : (l : List Action) → bytesIn (proceed l taken brings k bs 0) ≡ bs ++ brings (reverse taken)
     over-bytes [] = go q
       where
-        go : {p : Place} {x : Transfer} {brings : List ℕ → List ℕ} {k : List ℕ → Script} {bs : List ℕ} → ReadAt p x brings k bs → bytesIn (begin (k (reverse taken)) (bs ++ brings (reverse taken))) ≡ bs ++ brings (reverse taken)
+        go : {p : Place} {x : Transfer} {brings : List ℕ → List ℕ} {k : List ℕ → Script} {bs : List ℕ} → ReadAt p x brings k bs → bytesIn (begin (k (reverse taken)) (bs ++ brings (reverse taken)) 0) ≡ bs ++ brings (reverse taken)
         go (read-at {f} {d} {bs} h e g) = begun-bytes f (a + d + chunk d) (n - d - chunk d) (bs ++ bytesRead dummy (chunk d) (reverse taken))
     over-bytes (c ∷ l) = refl
 
-    drain-bytes : (b : Bool) (m : Midway) (c : Action) (l : List Action) → bytesIn (moves (cond b (stays m) over) c l taken brings k bs) ≡ bs ++ brings (reverse taken)
+    drain-bytes : (b : Bool) (m : Midway) (c : Action) (l : List Action) → bytesIn (moves (cond b (stays m) over) c l taken brings k bs 0) ≡ bs ++ brings (reverse taken)
     drain-bytes true m c l = refl
     drain-bytes false m c l = over-bytes l
 
-    poll-bytes : (b : Bool) (m₁ m₂ : Midway) (c : Action) (l : List Action) → bytesIn (moves (cond b (stays m₁) (stays m₂)) c l taken brings k bs) ≡ bs ++ brings (reverse taken)
+    poll-bytes : (b : Bool) (m₁ m₂ : Midway) (c : Action) (l : List Action) → bytesIn (moves (cond b (stays m₁) (stays m₂)) c l taken brings k bs 0) ≡ bs ++ brings (reverse taken)
     poll-bytes true m₁ m₂ c l = refl
     poll-bytes false m₁ m₂ c l = refl
 
@@ -214,7 +218,7 @@ module _ (fast dummy : Bool) (a n : ℕ) (log old : List ℕ) (span : a + n ≤ 
   same-buffer e = ap (λ (z : List ℕ). overlaid z old) (sym e)
 
   takes-reply : {p : Place} {x : Transfer} {brings : List ℕ → List ℕ} {k : List ℕ → Script} {bs : List ℕ} (c i b v j : ℕ) (taken : List ℕ) (t : Bool) → ReadAt p x brings k bs → b ≡ 4 * length taken
-      → stored job p (wire phase.Take c i b taken) v (overlaid (bs ++ brings (reverse taken)) old) ≡ overlaid (bytesIn (proceed (replicate j (reply t) ++ closing) (v ∷ taken) brings k bs)) old
+      → stored job p (wire phase.Take c i b taken) v (overlaid (bs ++ brings (reverse taken)) old) ≡ overlaid (bytesIn (proceed (replicate j (reply t) ++ closing) (v ∷ taken) brings k bs 0)) old
   takes-reply c i b v j taken t (read-at {f} {d} {bs} h e g) u = taking d v b bs taken h e u ∙ same-buffer (over-bytes (read-at {f = f} {d = d} {bs = bs} h e g) (v ∷ taken) (replicate j (reply t) ++ closing))
 
   r-keeps : (p : Place) (w : Wire) (z : State) (v : ℕ) → Rel p w Going z → stored job p w v (overlaid (bytesIn z) old) ≡ overlaid (bytesIn (next z v)) old
@@ -235,7 +239,7 @@ module _ (fast dummy : Bool) (a n : ℕ) (log old : List ℕ) (span : a + n ≤ 
   r-keeps p w z v (rel-on q (p-end {taken = taken} e)) = same-buffer (over-bytes q taken [])
 
   r-tie : Tie job [] old no-values Rel
-  r-tie = record { due = r-due; some = r-some; steps = r-steps; over = r-ends; values = r-values; no-values = λ w. (refl, refl); keeps = r-keeps }
+  r-tie = record { due = r-due; some = r-some; steps = r-steps; over = r-ends; values = r-values; counts = r-counts; no-values = λ w. (refl, refl); keeps = r-keeps }
 
   read-going : 0 < n → Starts (start.going job (at 0)) [] log old no-values (readFrom n fast dummy a n)
   read-going h =

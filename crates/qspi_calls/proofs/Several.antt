@@ -12,8 +12,9 @@ use Rattle.zedboard_bsp.specs.Registers.{protected, configuredCr, configuredSr,
 use Rattle.zedboard_bsp.specs.Words.{topByte}
 use Rattle.qspi_transfer.specs.declared.Phase.the-variants as phase
 use Rattle.qspi_transfer.specs.declared.Wire.{Wire}
+use Rattle.qspi_transfer.specs.Wire.{freshWire, pickWire}
 use Rattle.qspi_script.specs.Stages.{frameAt, frameOf, firstAt, dueWord}
-use Rattle.qspi_script.specs.Turns.{statusOf, begin, finish, pick, failed, turnAt, turnOf}
+use Rattle.qspi_script.specs.Turns.{statusOf, begin, finish, pick, settled, failed, turnAt, turnOf}
 use Rattle.qspi_script.specs.declared.Stage.{Stage}
 use Rattle.qspi_script.specs.declared.Stage.the-variants as stage
 use Rattle.qspi_script.specs.declared.Status.{Status}
@@ -23,7 +24,7 @@ use Rattle.qspi_script.specs.declared.Place.{Place}
 use Rattle.qspi_script.specs.declared.Turned.{Turned}
 use Rattle.qspi_operation.specs.declared.Op.{Op}
 use Rattle.qspi_operation.specs.Store.{isReading}
-use Rattle.qspi_operation.specs.Step.{isGoing}
+use Rattle.qspi_operation.specs.Step.{isGoing, programmedAt}
 use Rattle.qspi_calls.specs.Machine.{Transfer, Script, ends, repeats, exchange, onward, drain, opening}
 use Rattle.qspi_calls.specs.Machine as machine
 use Rattle.qspi_calls.specs.Calls as call
@@ -33,20 +34,20 @@ use Rattle.qspi_calls.specs.declared.start.Config.{Config}
 use Rattle.qspi_calls.specs.declared.start.Latency.{Latency}
 use Rattle.qspi_calls.specs.declared.start.Latency.the-variants.{AsRead, Code}
 use Rattle.qspi_calls.proofs.Phases.{wire, words, Same, p-drain}
-use Rattle.qspi_calls.proofs.Scripted.{Turns, on, again, over, Scripted, Rel, rel-on, script-tie}
+use Rattle.qspi_calls.proofs.Scripted.{Turns, on, again, over, Scripted, Rel, rel-on, script-tie, turned, rel-bytes}
 use Rattle.qspi_calls.proofs.Short.{of-one, same-short, word-short, no-values, ended-at-start}
 use Rattle.qspi_calls.proofs.Whole.{Starts}
 use Rattle.qspi_calls.proofs.ProgramWords.{length-words, data-word}
 
 -- ---- starting
 
-abbrev Stages : Type 1
+abbrev pub Stages : Type 1
 Stages = Place → Transfer → (List ℕ → Script) → Type 0
 
 -- a call that begins with a transfer of its script
 begins : (job : Job) (bytes log : List ℕ) (At : Stages) → Scripted job bytes [] no-values At → (p : Place) (x : Transfer) (k : List ℕ → Script) → At p x k
-    → length bytes ≡ job .lent .«data» → length log ≡ job .lent .log → 0 ≡ job .lent .buffer → Starts (start.going job p) bytes log [] no-values (exchange x k)
-begins job bytes log At s p x k q d l b = record {
+    → 0 ≡ programmedAt job p → length bytes ≡ job .lent .«data» → length log ≡ job .lent .log → 0 ≡ job .lent .buffer → Starts (start.going job p) bytes log [] no-values (exchange x k)
+begins job bytes log At s p x k q n d l b = record {
   job = job;
   place = p;
   wire = _;
@@ -54,14 +55,36 @@ begins job bytes log At s p x k q d l b = record {
   is = refl;
   Rel = Rel job bytes [] no-values At;
   tie = script-tie job bytes [] no-values At s;
-  rel = rel-on q p-drain;
+  rel = rel-on n q p-drain;
   lent-data = d;
   lent-log = l;
   lent-buffer = b;
   unread = refl;
 }
 
-either : (bytes log : List ℕ) (b : Bool) {o₁ o₂ : Op} {c₁ c₂ : Script} → (b ≡ true → Starts o₁ bytes log [] no-values c₁) → (b ≡ false → Starts o₂ bytes log [] no-values c₂)
+-- a call that begins where a turn leads
+pub opens : (job : Job) (bytes log : List ℕ) (At : Stages) → Scripted job bytes [] no-values At → (t : Turned) (z : Script) → Turns job bytes [] no-values At t (freshWire phase.DrainStatus) 0 z
+    → length bytes ≡ job .lent .«data» → length log ≡ job .lent .log → 0 ≡ job .lent .buffer → Starts (start.opened job t) bytes log [] no-values z
+opens job bytes log At s t z q d l b = record {
+  job = job;
+  place = t .place;
+  wire = pickWire (isGoing (t .status)) (freshWire phase.DrainStatus) (freshWire phase.DrainStatus);
+  status = t .status;
+  is = ap (λ (w : Wire). record { job = job; place = t .place; wire = w; used = 0; replies = 0; status = t .status }) (sym (one-wire (isGoing (t .status)) (freshWire phase.DrainStatus)));
+  Rel = Rel job bytes [] no-values At;
+  tie = script-tie job bytes [] no-values At s;
+  rel = turned job bytes [] no-values At s (freshWire phase.DrainStatus) t q;
+  lent-data = d;
+  lent-log = l;
+  lent-buffer = b;
+  unread = rel-bytes job bytes [] no-values At s (turned job bytes [] no-values At s (freshWire phase.DrainStatus) t q);
+}
+  where
+    one-wire : (b : Bool) (w : Wire) → pickWire b w w ≡ w
+    one-wire true w = refl
+    one-wire false w = refl
+
+pub either : (bytes log : List ℕ) (b : Bool) {o₁ o₂ : Op} {c₁ c₂ : Script} → (b ≡ true → Starts o₁ bytes log [] no-values c₁) → (b ≡ false → Starts o₂ bytes log [] no-values c₂)
     → Starts (start.pick b o₁ o₂) bytes log [] no-values (onward b c₁ c₂)
 either bytes log true h₁ h₂ = h₁ refl
 either bytes log false h₁ h₂ = h₂ refl
@@ -69,15 +92,15 @@ either bytes log false h₁ h₂ = h₂ refl
 -- ---- turns
 
 module _ (job : Job) (bytes : List ℕ) (At : Stages) where
-  abbrev Turn : Turned → Wire → Script → Type 0
-  Turn t w z = Turns job bytes [] no-values At t w z
+  abbrev Turn : Turned → Wire → ℕ → Script → Type 0
+  Turn t w n z = Turns job bytes [] no-values At t w n z
 
   -- a transfer of one reply
-  one-reply : (p : Place) (c i b : ℕ) (taken : List ℕ) (k : List ℕ → Script) → length taken ≡ 1 → ((r : ℕ) → Turn (turnOf job p r) (wire phase.Disable c i b (r ∷ [])) (k (r ∷ [])))
-      → Turn (turnOf job p (getD taken 0 0)) (wire phase.Disable c i b taken) (k (reverse taken))
-  one-reply p c i b taken k e h = of-one taken (λ t. Turn (turnOf job p (getD t 0 0)) (wire phase.Disable c i b t) (k (reverse t))) e h
+  one-reply : (p : Place) (c i b : ℕ) (taken : List ℕ) (k : List ℕ → Script) → length taken ≡ 1 → ((r : ℕ) → Turn (turnOf job p r) (wire phase.Disable c i b (r ∷ [])) (programmedAt job p) (k (r ∷ [])))
+      → Turn (turnOf job p (getD taken 0 0)) (wire phase.Disable c i b taken) (programmedAt job p) (k (reverse taken))
+  one-reply p c i b taken k e h = of-one taken (λ t. Turn (turnOf job p (getD t 0 0)) (wire phase.Disable c i b t) (programmedAt job p) (k (reverse t))) e h
 
-  picked : (b : Bool) {t₁ t₂ : Turned} {w : Wire} {z₁ z₂ : Script} → Turn t₁ w z₁ → Turn t₂ w z₂ → Turn (pick b t₁ t₂) w (onward b z₁ z₂)
+  picked : (b : Bool) {t₁ t₂ : Turned} {w : Wire} {n : ℕ} {z₁ z₂ : Script} → Turn t₁ w n z₁ → Turn t₂ w n z₂ → Turn (pick b t₁ t₂) w n (onward b z₁ z₂)
   picked true h₁ h₂ = h₁
   picked false h₁ h₂ = h₂
 
@@ -102,16 +125,16 @@ module _ (s : Stage) (x : Transfer) (sr cr : ℕ) (log : List ℕ) where
     e-word p y k first-then = word
 
     e-turn : (p : Place) (y : Transfer) (k : List ℕ → Script) → Enabled p y k → (c i b : ℕ) (taken : List ℕ) → length taken ≡ y .replies
-        → Turns enabled-job [] [] no-values Enabled (turnOf enabled-job p (getD taken 0 0)) (wire phase.Disable c i b taken) (k (reverse taken))
-    e-turn p y k first-enable c i b taken e = one-reply enabled-job [] Enabled p c i b taken k e (λ r. on going first-then)
-    e-turn p y k first-then c i b taken e = one-reply enabled-job [] Enabled p c i b taken k (e ∙ one) (λ r. rw (ends-here r) (over refl refl refl))
+        → Turns enabled-job [] [] no-values Enabled (turnOf enabled-job p (getD taken 0 0)) (wire phase.Disable c i b taken) (programmedAt enabled-job p) (k (reverse taken))
+    e-turn p y k first-enable c i b taken e = one-reply enabled-job [] Enabled p c i b taken k e (λ r. on going refl first-then)
+    e-turn p y k first-then c i b taken e = one-reply enabled-job [] Enabled p c i b taken k (e ∙ one) (λ r. rw (ends-here r) (over refl refl refl refl))
 
     e-unread : (p : Place) (y : Transfer) (k : List ℕ → Script) → Enabled p y k → isReading (p .stage) ≡ false
     e-unread p y k first-enable = refl
     e-unread p y k first-then = unread
 
     pub enabled-then : Starts (start.enabledThen s sr cr (length log)) [] log [] no-values (call.enabledThen x)
-    enabled-then = begins enabled-job [] log Enabled (record { same = e-same; word = e-word; turn = e-turn; unread = e-unread; no-values = λ w. (refl, refl) }) _ _ _ first-enable refl refl refl
+    enabled-then = begins enabled-job [] log Enabled (record { same = e-same; word = e-word; turn = e-turn; unread = e-unread; no-values = λ w. (refl, refl) }) _ _ _ first-enable refl refl refl refl
 
 pub write-status : (sr : ℕ) (log : List ℕ) → Starts (start.enabledThen stage.WriteStatus sr 0 (length log)) [] log [] no-values (call.writeStatus sr)
 write-status sr log = enabled-then stage.WriteStatus (statusWriting sr) sr 0 log refl (λ r. refl) (same-short 0x84 _) (word-short (start.commandJob (start.enabled stage.WriteStatus) (length log)) (start.placeAt stage.WriteStatus 0 sr 0) [] 0x84 _ refl) refl refl
@@ -149,21 +172,21 @@ module _ (quad setLatency : Bool) (latency : ℕ) (clear : Bool) (log : List ℕ
   n-word p y k new-enable = word-short new-job p [] 0x80 _ refl
   n-word p y k new-write = word-short new-job p [] 0x88 _ refl
 
-  may-update : (q l c : Bool) {w : Wire} → Turns new-job [] [] no-values New (begin (start.placeAt stage.Clear 0 0 0) (start.mayUpdate q l c)) w (onward (q || (l || c)) (call.configuring quad setLatency latency clear) (ends Done []))
-  may-update true l c = on refl new-config
-  may-update false true c = on refl new-config
-  may-update false false true = on refl new-config
-  may-update false false false = over refl refl refl
+  may-update : (q l c : Bool) {w : Wire} → Turns new-job [] [] no-values New (begin (start.placeAt stage.Clear 0 0 0) (start.mayUpdate q l c)) w 0 (onward (q || (l || c)) (call.configuring quad setLatency latency clear) (ends Done []))
+  may-update true l c = on refl refl new-config
+  may-update false true c = on refl refl new-config
+  may-update false false true = on refl refl new-config
+  may-update false false false = over refl refl refl refl
 
   n-turn : (p : Place) (y : Transfer) (k : List ℕ → Script) → New p y k → (c i b : ℕ) (taken : List ℕ) → length taken ≡ y .replies
-      → Turns new-job [] [] no-values New (turnOf new-job p (getD taken 0 0)) (wire phase.Disable c i b taken) (k (reverse taken))
+      → Turns new-job [] [] no-values New (turnOf new-job p (getD taken 0 0)) (wire phase.Disable c i b taken) (programmedAt new-job p) (k (reverse taken))
   n-turn p y k new-clear c i b taken e = one-reply new-job [] New p c i b taken k e (λ r. may-update quad setLatency clear)
-  n-turn p y k new-config c i b taken e = one-reply new-job [] New p c i b taken k e (λ r. on refl new-status)
+  n-turn p y k new-config c i b taken e = one-reply new-job [] New p c i b taken k e (λ r. on refl refl new-status)
   n-turn p y k (new-status {cr}) c i b taken e =
       one-reply new-job [] New p c i b taken k e
-      (λ r. picked new-job [] New (updateNeeded quad setLatency latency clear cr (topByte r)) (on refl new-enable) (over refl refl refl))
-  n-turn p y k new-enable c i b taken e = one-reply new-job [] New p c i b taken k e (λ r. on refl new-write)
-  n-turn p y k new-write c i b taken e = one-reply new-job [] New p c i b taken k e (λ r. over refl refl refl)
+      (λ r. picked new-job [] New (updateNeeded quad setLatency latency clear cr (topByte r)) (on refl refl new-enable) (over refl refl refl refl))
+  n-turn p y k new-enable c i b taken e = one-reply new-job [] New p c i b taken k e (λ r. on refl refl new-write)
+  n-turn p y k new-write c i b taken e = one-reply new-job [] New p c i b taken k e (λ r. over refl refl refl refl)
 
   n-unread : (p : Place) (y : Transfer) (k : List ℕ → Script) → New p y k → isReading (p .stage) ≡ false
   n-unread p y k new-clear = refl
@@ -178,7 +201,7 @@ module _ (quad setLatency : Bool) (latency : ℕ) (clear : Bool) (log : List ℕ
   pub new-with : Starts (start.newWith quad setLatency latency clear (length log)) [] log [] no-values (call.newWith quad setLatency latency clear)
   new-with =
       either [] log (ltb 3 latency) (λ e. ended-at-start new-job [] log [] FieldTooWide refl refl refl refl)
-      (λ e. begins new-job [] log New new-scripted _ _ _ new-clear refl refl refl)
+      (λ e. begins new-job [] log New new-scripted _ _ _ new-clear refl refl refl refl)
 
 -- ---- set_write_protection
 
@@ -205,11 +228,11 @@ module _ (protection : ℕ) (log : List ℕ) where
   t-word p y k protect-write = word-short protecting-job p [] 0x88 _ refl
 
   t-turn : (p : Place) (y : Transfer) (k : List ℕ → Script) → Protect p y k → (c i b : ℕ) (taken : List ℕ) → length taken ≡ y .replies
-      → Turns protecting-job [] [] no-values Protect (turnOf protecting-job p (getD taken 0 0)) (wire phase.Disable c i b taken) (k (reverse taken))
-  t-turn p y k protect-status c i b taken e = one-reply protecting-job [] Protect p c i b taken k e (λ r. on refl protect-config)
-  t-turn p y k protect-config c i b taken e = one-reply protecting-job [] Protect p c i b taken k e (λ r. on refl protect-enable)
-  t-turn p y k protect-enable c i b taken e = one-reply protecting-job [] Protect p c i b taken k e (λ r. on refl protect-write)
-  t-turn p y k protect-write c i b taken e = one-reply protecting-job [] Protect p c i b taken k e (λ r. over refl refl refl)
+      → Turns protecting-job [] [] no-values Protect (turnOf protecting-job p (getD taken 0 0)) (wire phase.Disable c i b taken) (programmedAt protecting-job p) (k (reverse taken))
+  t-turn p y k protect-status c i b taken e = one-reply protecting-job [] Protect p c i b taken k e (λ r. on refl refl protect-config)
+  t-turn p y k protect-config c i b taken e = one-reply protecting-job [] Protect p c i b taken k e (λ r. on refl refl protect-enable)
+  t-turn p y k protect-enable c i b taken e = one-reply protecting-job [] Protect p c i b taken k e (λ r. on refl refl protect-write)
+  t-turn p y k protect-write c i b taken e = one-reply protecting-job [] Protect p c i b taken k e (λ r. over refl refl refl refl)
 
   t-unread : (p : Place) (y : Transfer) (k : List ℕ → Script) → Protect p y k → isReading (p .stage) ≡ false
   t-unread p y k protect-status = refl
@@ -223,75 +246,108 @@ module _ (protection : ℕ) (log : List ℕ) where
   pub set-write-protection : Starts (start.setWriteProtection protection (length log)) [] log [] no-values (call.setWriteProtection protection)
   set-write-protection =
       either [] log (ltb 7 protection) (λ e. ended-at-start protecting-job [] log [] FieldTooWide refl refl refl refl)
-      (λ e. begins protecting-job [] log Protect protect-scripted _ _ _ protect-status refl refl refl)
+      (λ e. begins protecting-job [] log Protect protect-scripted _ _ _ protect-status refl refl refl refl)
 
 -- ---- erase and program: the work, then the status until it is settled
 
-module _ (work : Stage) (erases : Bool) (failure : Status) (bit a : ℕ) (bytes log : List ℕ) (n : ℕ) (x : Transfer) where
-  abbrev work-job : Job
-  work-job = start.workingJob work erases failure a (length bytes) (length log)
+-- `Ready d n x then`: after d bytes programmed the work at hand is the transfer x, of n bytes, and `then` comes once its status is clean
+module _ (work : Stage) (erases pages : Bool) (failure : Status) (bit a : ℕ) (bytes log : List ℕ) (Ready : ℕ → ℕ → Transfer → Script → Type 0) where
+  abbrev pub work-job : Job
+  work-job = start.workingJob work erases pages failure a (length bytes) (length log)
 
-  abbrev settled : List ℕ → Script
-  settled rs = onward (isSet bit (top rs)) (call.failing failure) (ends Done [])
+  abbrev pub work-at : Stage → ℕ → ℕ → Place
+  work-at s d n = record { stage = s; done = d; chunk = n; sr = 0; cr = 0 }
 
   abbrev unsettled : List ℕ → Bool
   unsettled rs = not (isSet bit (top rs)) && isSet 0 (top rs)
 
-  data Working : Place → Transfer → (List ℕ → Script) → Type 0 where
-    settle-enable : Working (start.placeAt stage.Enable n 0 0) enabling (λ rs. exchange x (λ rs. call.settling bit failure))
-    settle-work : Working (start.placeAt work n 0 0) x (λ rs. call.settling bit failure)
-    settle-poll : Working (start.placeAt stage.Poll n 0 0) statusReading (λ rs. onward (unsettled rs) (call.settling bit failure) (settled rs))
-    settle-clear : Working (start.placeAt stage.Clear n 0 0) clearing (λ rs. exchange disabling (λ rs. refused failure))
-    settle-disable : Working (start.placeAt stage.Disable n 0 0) disabling (λ rs. refused failure)
+  pub data Working : Place → Transfer → (List ℕ → Script) → Type 0 where
+    settle-enable : {d n : ℕ} {x : Transfer} {then : Script} → Ready d n x then → Working (work-at stage.Enable d n) enabling (λ rs. exchange x (λ rs. call.settling bit failure then))
+    settle-work : {d n : ℕ} {x : Transfer} {then : Script} → Ready d n x then → Working (work-at work d n) x (λ rs. call.settling bit failure then)
+    settle-poll : {d n : ℕ} {x : Transfer} {then : Script} → Ready d n x then
+        → Working (work-at stage.Poll d n) statusReading (λ rs. onward (unsettled rs) (call.settling bit failure then) (onward (isSet bit (top rs)) (call.failing failure) then))
+    settle-clear : {d n : ℕ} → Working (work-at stage.Clear d n) clearing (λ rs. exchange disabling (λ rs. refused failure))
+    settle-disable : {d n : ℕ} → Working (work-at stage.Disable d n) disabling (λ rs. refused failure)
 
-  module _ (going : statusOf work ≡ Going) (polls : (r : ℕ) → turnAt work work-job (start.placeAt work n 0 0) r ≡ begin (start.placeAt work n 0 0) stage.Poll)
-      (same : Same (frameAt work work-job n) x) (word : (i : ℕ) → i < length (words x) → dueWord work-job (start.placeAt work n 0 0) i bytes ≡ getD (words x) i 0)
+  module _ (going : statusOf work ≡ Going) (polls : (d n r : ℕ) → turnAt work work-job (work-at work d n) r ≡ begin (work-at work d n) stage.Poll)
+      (same : (d n : ℕ) (x : Transfer) (then : Script) → Ready d n x then → Same (frameAt work work-job n) x)
+      (word : (d n : ℕ) (x : Transfer) (then : Script) → Ready d n x then → (i : ℕ) → i < length (words x) → dueWord work-job (work-at work d n) i bytes ≡ getD (words x) i 0)
+      (clean : (d n : ℕ) (x : Transfer) (then : Script) (w : Wire) → Ready d n x then → Turns work-job bytes [] no-values Working (settled work-job (work-at stage.Poll d n)) w (programmedAt work-job (work-at stage.Poll d n)) then)
       (unread : isReading work ≡ false) (fails : isGoing failure ≡ false) (error : (st : ℕ) → failed (work-job .script) st ≡ isSet bit st) where
     w-same : (p : Place) (y : Transfer) (k : List ℕ → Script) → Working p y k → Same (frameOf work-job p) y
-    w-same p y k settle-enable = same-short 0x80 _
-    w-same p y k settle-work = same
-    w-same p y k settle-poll = same-short 0x84 _
+    w-same p y k (settle-enable q) = same-short 0x80 _
+    w-same p y k (settle-work {d} {n} {x} {then} q) = same d n x then q
+    w-same p y k (settle-poll q) = same-short 0x84 _
     w-same p y k settle-clear = same-short 0x80 _
     w-same p y k settle-disable = same-short 0x80 _
 
     w-word : (p : Place) (y : Transfer) (k : List ℕ → Script) → Working p y k → (i : ℕ) → i < length (words y) → dueWord work-job p i bytes ≡ getD (words y) i 0
-    w-word p y k settle-enable = word-short work-job p bytes 0x80 _ refl
-    w-word p y k settle-work = word
-    w-word p y k settle-poll = word-short work-job p bytes 0x84 _ refl
+    w-word p y k (settle-enable q) = word-short work-job p bytes 0x80 _ refl
+    w-word p y k (settle-work {d} {n} {x} {then} q) = word d n x then q
+    w-word p y k (settle-poll q) = word-short work-job p bytes 0x84 _ refl
     w-word p y k settle-clear = word-short work-job p bytes 0x80 _ refl
     w-word p y k settle-disable = word-short work-job p bytes 0x80 _ refl
 
-    polled : (e b : Bool) {w : Wire} → Turns work-job bytes [] no-values Working (pick e (begin (start.placeAt stage.Poll n 0 0) stage.Clear) (pick b (begin (start.placeAt stage.Poll n 0 0) stage.Poll) (finish (start.placeAt stage.Poll n 0 0) Done))) w
-        (onward (not e && b) (call.settling bit failure) (onward e (call.failing failure) (ends Done [])))
-    polled true b = on refl settle-clear
-    polled false true = again refl settle-poll
-    polled false false = over refl refl refl
+    polled : (d n : ℕ) (x : Transfer) (then : Script) (e b : Bool) (w : Wire) → Ready d n x then
+        → Turns work-job bytes [] no-values Working (pick e (begin (work-at stage.Poll d n) stage.Clear) (pick b (begin (work-at stage.Poll d n) stage.Poll) (settled work-job (work-at stage.Poll d n)))) w (programmedAt work-job (work-at stage.Poll d n))
+        (onward (not e && b) (call.settling bit failure then) (onward e (call.failing failure) then))
+    polled d n x then true b w q = on refl refl settle-clear
+    polled d n x then false true w q = again refl refl (settle-poll q)
+    polled d n x then false false w q = clean d n x then w q
 
     w-turn : (p : Place) (y : Transfer) (k : List ℕ → Script) → Working p y k → (c i b : ℕ) (taken : List ℕ) → length taken ≡ y .replies
-        → Turns work-job bytes [] no-values Working (turnOf work-job p (getD taken 0 0)) (wire phase.Disable c i b taken) (k (reverse taken))
-    w-turn p y k settle-enable c i b taken e = one-reply work-job bytes Working p c i b taken k e (λ r. on going settle-work)
-    w-turn p y k settle-work c i b taken e = rw (polls (getD taken 0 0)) (again refl settle-poll)
-    w-turn p y k settle-poll c i b taken e =
-        one-reply work-job bytes Working p c i b taken k e (λ r. rw (error (topByte r)) (polled (isSet bit (topByte r)) (isSet 0 (topByte r))))
-    w-turn p y k settle-clear c i b taken e = one-reply work-job bytes Working p c i b taken k e (λ r. on refl settle-disable)
-    w-turn p y k settle-disable c i b taken e = one-reply work-job bytes Working p c i b taken k e (λ r. over fails refl refl)
+        → Turns work-job bytes [] no-values Working (turnOf work-job p (getD taken 0 0)) (wire phase.Disable c i b taken) (programmedAt work-job p) (k (reverse taken))
+    w-turn p y k (settle-enable q) c i b taken e = one-reply work-job bytes Working p c i b taken k e (λ r. on going refl (settle-work q))
+    w-turn p y k (settle-work {d} {n} q) c i b taken e = rw (polls d n (getD taken 0 0)) (again refl refl (settle-poll q))
+    w-turn p y k (settle-poll {d} {n} {x} {then} q) c i b taken e =
+        one-reply work-job bytes Working p c i b taken k e (λ r. rw (error (topByte r)) (polled d n x then (isSet bit (topByte r)) (isSet 0 (topByte r)) (wire phase.Disable c i b (r ∷ [])) q))
+    w-turn p y k settle-clear c i b taken e = one-reply work-job bytes Working p c i b taken k e (λ r. on refl refl settle-disable)
+    w-turn p y k settle-disable c i b taken e = one-reply work-job bytes Working p c i b taken k e (λ r. over fails refl refl refl)
 
     w-unread : (p : Place) (y : Transfer) (k : List ℕ → Script) → Working p y k → isReading (p .stage) ≡ false
-    w-unread p y k settle-enable = refl
-    w-unread p y k settle-work = unread
-    w-unread p y k settle-poll = refl
+    w-unread p y k (settle-enable q) = refl
+    w-unread p y k (settle-work q) = unread
+    w-unread p y k (settle-poll q) = refl
     w-unread p y k settle-clear = refl
     w-unread p y k settle-disable = refl
 
-    pub working : Starts (start.going work-job (start.placeAt stage.Enable n 0 0)) bytes log [] no-values (call.working bit failure x)
+    pub working-scripted : Scripted work-job bytes [] no-values Working
+    working-scripted = record { same = w-same; word = w-word; turn = w-turn; unread = w-unread; no-values = λ w. (refl, refl) }
+
+-- one work, and the call is done
+data Alone (n₀ : ℕ) (x₀ : Transfer) : ℕ → ℕ → Transfer → Script → Type 0 where
+  alone : Alone n₀ x₀ 0 n₀ x₀ (ends Done [])
+
+module _ (work : Stage) (erases : Bool) (failure : Status) (bit a : ℕ) (bytes log : List ℕ) (n : ℕ) (x : Transfer) where
+  abbrev lone-job : Job
+  lone-job = start.workingJob work erases false failure a (length bytes) (length log)
+
+  abbrev Lone : Stages
+  Lone = Working work erases false failure bit a bytes log (Alone n x)
+
+  module _ (going : statusOf work ≡ Going) (polls : (d m r : ℕ) → turnAt work lone-job (record { stage = work; done = d; chunk = m; sr = 0; cr = 0 }) r ≡ begin (record { stage = work; done = d; chunk = m; sr = 0; cr = 0 }) stage.Poll)
+      (same : Same (frameAt work lone-job n) x) (word : (i : ℕ) → i < length (words x) → dueWord lone-job (start.placeAt work n 0 0) i bytes ≡ getD (words x) i 0)
+      (unread : isReading work ≡ false) (fails : isGoing failure ≡ false) (error : (st : ℕ) → failed (lone-job .script) st ≡ isSet bit st) where
+    lone-same : (d m : ℕ) (y : Transfer) (then : Script) → Alone n x d m y then → Same (frameAt work lone-job m) y
+    lone-same d m y then alone = same
+
+    lone-word : (d m : ℕ) (y : Transfer) (then : Script) → Alone n x d m y then → (i : ℕ) → i < length (words y)
+        → dueWord lone-job (record { stage = work; done = d; chunk = m; sr = 0; cr = 0 }) i bytes ≡ getD (words y) i 0
+    lone-word d m y then alone = word
+
+    lone-clean : (d m : ℕ) (y : Transfer) (then : Script) (w : Wire) → Alone n x d m y then
+        → Turns lone-job bytes [] no-values Lone (settled lone-job (record { stage = stage.Poll; done = d; chunk = m; sr = 0; cr = 0 })) w 0 then
+    lone-clean d m y then w alone = over refl refl refl refl
+
+    pub working : Starts (start.going lone-job (start.placeAt stage.Enable n 0 0)) bytes log [] no-values (call.working bit failure x (ends Done []))
     working =
-        begins work-job bytes log Working (record { same = w-same; word = w-word; turn = w-turn; unread = w-unread; no-values = λ w. (refl, refl) }) _ _ _ settle-enable refl refl refl
+        begins lone-job bytes log Lone (working-scripted work erases false failure bit a bytes log (Alone n x) going polls lone-same lone-word lone-clean unread fails error) _ _ _ (settle-enable alone) refl refl refl refl
 
 pub erase-sector : (a : ℕ) (log : List ℕ) → Starts (start.eraseSector a (length log)) [] log [] no-values (call.eraseSector a)
 erase-sector a log =
     either [] log (ltb 16777215 (a + 65536)) (λ e. ended-at-start _ [] log [] OutOfRange refl refl refl refl)
     (λ e. either [] log (eqb (a % 65536) 0)
-    (λ f. working stage.Erase true EraseErrorBitSet 5 a [] log 0 (call.erasing a) refl (λ r. refl) (same-short 0x1C _) (word-short (start.erasingJob a (length log)) (start.placeAt stage.Erase 0 0 0) [] 0x1C _ refl) refl refl (λ st. refl))
+    (λ f. working stage.Erase true EraseErrorBitSet 5 a [] log 0 (call.erasing a) refl (λ d m r. refl) (same-short 0x1C _) (word-short (start.erasingJob a (length log)) (start.placeAt stage.Erase 0 0 0) [] 0x1C _ refl) refl refl (λ st. refl))
     (λ f. ended-at-start _ [] log [] Alignment refl refl refl refl))
 
 -- the words of `program`'s transfer
@@ -303,7 +359,7 @@ program-word a n bytes log r few fours zero l =
 program-word a n bytes log r few fours (suc j) l =
     let f : suc j - 1 ≡ j = omega arith in
     let g : eqb (suc j) 0 ≡ false = ne-eqb (suc j) 0 (λ z. omega arith) in
-    rw (g, f) (data-word bytes j few fours (omega arith))
+    rw (g, f) (data-word bytes bytes 0 j (omega arith) (omega arith) (λ i h. ap (λ (z : ℕ). getD bytes z 0) (let y : i ≡ 0 + i = omega arith in y)) fours (omega arith))
 
 program-same : (a : ℕ) (bytes log : List ℕ) → length bytes ≤ 240 → length bytes % 4 ≡ 0 → Same (frameAt stage.Program (start.programmingJob a (length bytes) (length log)) (length bytes)) (call.programming a bytes)
 program-same a bytes log few fours =
@@ -315,7 +371,7 @@ program a bytes log =
     (λ e. either bytes log (ltb 240 (length bytes)) (λ f. ended-at-start _ bytes log [] DataTooLarge refl refl refl refl)
     (λ f. either bytes log (eqb (length bytes % 4) 0)
     (λ g. either bytes log (ltb 256 (a % 256 + length bytes)) (λ h. ended-at-start _ bytes log [] CrossesPageBoundary refl refl refl refl)
-    (λ h. working stage.Program false ProgrammingErrorBitSet 6 a bytes log (length bytes) (call.programming a bytes) refl (λ r. refl)
+    (λ h. working stage.Program false ProgrammingErrorBitSet 6 a bytes log (length bytes) (call.programming a bytes) refl (λ d m r. refl)
     (program-same a bytes log (ltb-false 240 (length bytes) f) (eqb-true (length bytes % 4) 0 g))
     (program-word a (length bytes) bytes log (ltb-false 16777215 (a + length bytes) e) (ltb-false 240 (length bytes) f) (eqb-true (length bytes % 4) 0 g)) refl refl (λ st. refl)))
     (λ g. ended-at-start _ bytes log [] NotAligned refl refl refl refl)))

@@ -1,6 +1,6 @@
 -- Calls of one-word transfers: each is tied to its script. Assumes nothing.
 use mathlib.Core.Path.{_≡_, refl, ap, _∙_, sym}
-use mathlib.Core.Bool.{Bool, true, false}
+use mathlib.Core.Bool.{Bool, true, false, cond}
 use mathlib.Core.List.{List, [], _∷_, _++_, reverse}
 use Prim.Native.Nat.{ℕ, zero, suc, _+_, _*_, _<_}
 use native.Mathlib.Omega.{arith}
@@ -16,9 +16,9 @@ use Rattle.qspi_script.specs.declared.Place.{Place}
 use Rattle.qspi_script.specs.declared.Turned.{Turned}
 use Rattle.qspi_operation.specs.declared.Op.{Op}
 use Rattle.qspi_operation.specs.Store.{isReading}
-use Rattle.qspi_operation.specs.Step.{isGoing}
+use Rattle.qspi_operation.specs.Step.{isGoing, programmedAt}
 use Rattle.qspi_operation.proofs.Verdicts.{no}
-use Rattle.qspi_calls.specs.Machine.{Transfer, Script, ends, exchange, none, begin, State, ended, nothing, want, statusIn, valuesIn}
+use Rattle.qspi_calls.specs.Machine.{Transfer, Script, ends, exchange, none, begin, State, ended, nothing, want, statusIn, valuesIn, countIn}
 use Rattle.qspi_calls.specs.Calls.{short}
 use Rattle.qspi_calls.specs.Starts as start
 use Rattle.qspi_calls.proofs.Tied.{Tie}
@@ -57,7 +57,7 @@ no-values a w = []
 
 module _ (job : Job) (p : Place) (buffer : List ℕ) (Values : Status → Wire → List ℕ) (x : Transfer) (k : List ℕ → Script) (same : Same (frameOf job p) x)
     (word : (i : ℕ) → i < length (words x) → dueWord job p i [] ≡ getD (words x) i 0)
-    (turn : (c i b : ℕ) (taken : List ℕ) → length taken ≡ x .replies → Turns job [] buffer Values (Only p x k) (turnOf job p (getD taken 0 0)) (wire Disable c i b taken) (k (reverse taken)))
+    (turn : (c i b : ℕ) (taken : List ℕ) → length taken ≡ x .replies → Turns job [] buffer Values (Only p x k) (turnOf job p (getD taken 0 0)) (wire Disable c i b taken) (programmedAt job p) (k (reverse taken)))
     (unread : isReading (p .stage) ≡ false)
     (none-else : (w : Wire) → (Values RepliesEnded w ≡ []) × (Values LogFull w ≡ [])) where
   only-same : (q : Place) (y : Transfer) (z : List ℕ → Script) → Only p x k q y z → Same (frameOf job q) y
@@ -67,14 +67,14 @@ module _ (job : Job) (p : Place) (buffer : List ℕ) (Values : Status → Wire �
   only-word q y z only = word
 
   only-turn : (q : Place) (y : Transfer) (z : List ℕ → Script) → Only p x k q y z → (c i b : ℕ) (taken : List ℕ) → length taken ≡ y .replies
-      → Turns job [] buffer Values (Only p x k) (turnOf job q (getD taken 0 0)) (wire Disable c i b taken) (z (reverse taken))
+      → Turns job [] buffer Values (Only p x k) (turnOf job q (getD taken 0 0)) (wire Disable c i b taken) (programmedAt job q) (z (reverse taken))
   only-turn q y z only = turn
 
   only-unread : (q : Place) (y : Transfer) (z : List ℕ → Script) → Only p x k q y z → isReading (q .stage) ≡ false
   only-unread q y z only = unread
 
-  pub one-transfer : (log : List ℕ) → 0 ≡ job .lent .«data» → length log ≡ job .lent .log → length buffer ≡ job .lent .buffer → Starts (start.going job p) [] log buffer Values (exchange x k)
-  one-transfer log d l b = record {
+  pub one-transfer : (log : List ℕ) → 0 ≡ programmedAt job p → 0 ≡ job .lent .«data» → length log ≡ job .lent .log → length buffer ≡ job .lent .buffer → Starts (start.going job p) [] log buffer Values (exchange x k)
+  one-transfer log n d l b = record {
     job = job;
     place = p;
     wire = _;
@@ -82,7 +82,7 @@ module _ (job : Job) (p : Place) (buffer : List ℕ) (Values : Status → Wire �
     is = refl;
     Rel = Rel job [] buffer Values (Only p x k);
     tie = script-tie job [] buffer Values (Only p x k) (record { same = only-same; word = only-word; turn = only-turn; unread = only-unread; no-values = none-else });
-    rel = rel-on only p-drain;
+    rel = rel-on n only p-drain;
     lent-data = d;
     lent-log = l;
     lent-buffer = b;
@@ -92,7 +92,7 @@ module _ (job : Job) (p : Place) (buffer : List ℕ) (Values : Status → Wire �
 -- ---- a call that has ended at its start
 
 data Over : Place → Wire → Status → State → Type 0 where
-  over-at : {p : Place} {w : Wire} {a : Status} → isGoing a ≡ false → Over p w a (ended a [] [])
+  over-at : {p : Place} {w : Wire} {a : Status} → 0 ≡ p .done → isGoing a ≡ false → Over p w a (ended a [] [] 0)
 
 over-tie : (job : Job) (bytes buffer : List ℕ) → Tie job bytes buffer no-values Over
 over-tie job bytes buffer = record {
@@ -101,18 +101,23 @@ over-tie job bytes buffer = record {
   steps = λ p w s v q. absurd (not-going q);
   over = λ p w a s q g. ended-over q;
   values = λ p w a s q g. no-values-over q;
+  counts = λ p w a s q. nothing-programmed (job .script .paging) q;
   no-values = λ w. (refl, refl);
   keeps = λ p w s v q. absurd (not-going q);
 }
   where
     not-going : {p : Place} {w : Wire} {s : State} → Over p w Going s → ⊥
-    not-going (over-at g) = no (sym g)
+    not-going (over-at e g) = no (sym g)
 
     ended-over : {p : Place} {w : Wire} {a : Status} {s : State} → Over p w a s → (want s ≡ nothing) × (a ≡ statusIn s)
-    ended-over (over-at g) = (refl, refl)
+    ended-over (over-at e g) = (refl, refl)
+
+    nothing-programmed : (b : Bool) {p : Place} {w : Wire} {a : Status} {s : State} → Over p w a s → countIn s ≡ cond b (p .done) 0
+    nothing-programmed true (over-at e g) = e
+    nothing-programmed false (over-at e g) = refl
 
     no-values-over : {p : Place} {w : Wire} {a : Status} {s : State} → Over p w a s → valuesIn s ≡ []
-    no-values-over (over-at g) = refl
+    no-values-over (over-at e g) = refl
 
 pub ended-at-start : (job : Job) (bytes log buffer : List ℕ) (a : Status) → isGoing a ≡ false → length bytes ≡ job .lent .«data» → length log ≡ job .lent .log → length buffer ≡ job .lent .buffer
     → Starts (start.over job a) bytes log buffer no-values (ends a [])
@@ -124,7 +129,7 @@ ended-at-start job bytes log buffer a g d l b = record {
   is = refl;
   Rel = Over;
   tie = over-tie job bytes buffer;
-  rel = over-at g;
+  rel = over-at refl g;
   lent-data = d;
   lent-log = l;
   lent-buffer = b;

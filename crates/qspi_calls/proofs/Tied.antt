@@ -29,11 +29,11 @@ use Rattle.qspi_operation.specs.declared.Stepped.{Stepped}
 use Rattle.qspi_operation.specs.declared.Verdict.{Verdict}
 use Rattle.qspi_operation.specs.declared.Verdict.the-variants.{Ended, Changed, Full, Dry, Made}
 use Rattle.qspi_operation.specs.Store.{stored}
-use Rattle.qspi_operation.specs.Step.{isGoing, accessOf, answered, sameLengths, verdictOf, act, moved, movedBy, noted, taken, written, counted, replyOf, stepOf, logOf, bufferOf}
+use Rattle.qspi_operation.specs.Step.{isGoing, accessOf, answered, sameLengths, verdictOf, act, moved, movedBy, noted, taken, written, counted, replyOf, stepOf, logOf, bufferOf, programmedAt}
 use Rattle.qspi_operation.specs.Run.{Run, here, runAt, fuel}
 use Rattle.qspi_operation.proofs.Verdicts.{no}
 use Rattle.qspi_operation.proofs.Runs.{stored-kept}
-use Rattle.qspi_calls.specs.Machine.{Want, reads, writes, nothing, State, going, ended, want, next, statusIn, valuesIn, bytesIn, Result, halt, logging, noRoom, made, runs, overlaid, readsOf}
+use Rattle.qspi_calls.specs.Machine.{Want, reads, writes, nothing, State, going, ended, want, next, statusIn, valuesIn, bytesIn, countIn, Result, halt, logging, noRoom, made, runs, overlaid, readsOf}
 use Rattle.qspi_calls.proofs.Outcome.{Outcome, isRead, more}
 
 -- the access of what is due
@@ -53,6 +53,7 @@ pub record Tie (job : Job) (bytes buffer₀ : List ℕ) (Values : Status → Wir
   pub steps : (p : Place) (w : Wire) (s : State) (v : ℕ) → Rel p w Going s → Rel (after job p w v .place) (after job p w v .wire) (after job p w v .status) (next s v)
   pub over : (p : Place) (w : Wire) (a : Status) (s : State) → Rel p w a s → isGoing a ≡ false → (want s ≡ nothing) × (a ≡ statusIn s)
   pub values : (p : Place) (w : Wire) (a : Status) (s : State) → Rel p w a s → isGoing a ≡ false → valuesIn s ≡ Values a w
+  pub counts : (p : Place) (w : Wire) (a : Status) (s : State) → Rel p w a s → countIn s ≡ programmedAt job p
   pub no-values : (w : Wire) → (Values RepliesEnded w ≡ []) × (Values LogFull w ≡ [])
   pub keeps : (p : Place) (w : Wire) (s : State) (v : ℕ) → Rel p w Going s → stored job p w v (overlaid (bytesIn s) buffer₀) ≡ overlaid (bytesIn (next s v)) buffer₀
 
@@ -119,8 +120,8 @@ module _ (job : Job) (bytes rs buffer₀ : List ℕ) (same : length bytes ≡ jo
     no-value {vs} e = go s (t .some p w s q) ∙ sym e
       where
         go : (s : State) → (want s ≡ nothing → ⊥) → valuesIn s ≡ []
-        go (going m a l taken brings k bs) h = refl
-        go (ended a vs bs) h = absurd (h refl)
+        go (going m a l taken brings k bs n) h = refl
+        go (ended a vs bs n) h = absurd (h refl)
 
     -- no step makes an access any more
     halted : (u i n : ℕ) (a : Status) (vs log buffer : List ℕ) (v : Verdict) (k : ℕ) → verdictOf (op p w u i Going) bytes (length buffer) (length log) (replyOf rs i) ≡ v
@@ -130,9 +131,9 @@ module _ (job : Job) (bytes rs buffer₀ : List ℕ) (same : length bytes ≡ jo
     halted u i n a vs log buffer v k e f g z l m b = rw (unroll v k (op p w u i Going) buffer log e, f, l, m) (go k (isGoing a) g)
       where
         go : (k : ℕ) (c : Bool) → c ≡ false → Outcome Values (runAt k c a (op p w u i a) bytes rs buffer log) log buffer₀ u i (halt a s n vs)
-        go zero c h = record { answer = refl; used = omega arith; replies = omega arith; logged = refl; values = z; stored = b }
+        go zero c h = record { answer = refl; used = omega arith; replies = omega arith; logged = refl; values = z; stored = b; counted = t .counts p w Going s q }
         go (suc k) true h = no (sym h)
-        go (suc k) false h = record { answer = refl; used = omega arith; replies = omega arith; logged = refl; values = z; stored = b }
+        go (suc k) false h = record { answer = refl; used = omega arith; replies = omega arith; logged = refl; values = z; stored = b; counted = t .counts p w Going s q }
 
     -- an access is made, and the run goes on from there
     goes : (k : ℕ) → Tied k → (u i j : ℕ) (log buffer : List ℕ) (a : Access) (read : Bool) → verdictOf (op p w u i Going) bytes (length buffer) (length log) (replyOf rs i) ≡ Made (firstWord a) (valueWord a) read
@@ -190,7 +191,7 @@ module _ (job : Job) (bytes rs buffer₀ : List ℕ) (same : length bytes ≡ jo
   unfolding encode readsOf
   over-goal k u i log buffer p w a s q g b =
       let z = t .over p w a s q g in
-      rw (over-runs k s (drop i rs) (z .0)) (record { answer = z .1; used = omega arith; replies = omega arith; logged = refl; values = t .values p w a s q g; stored = b })
+      rw (over-runs k s (drop i rs) (z .0)) (record { answer = z .1; used = omega arith; replies = omega arith; logged = refl; values = t .values p w a s q g; stored = b; counted = t .counts p w a s q })
 
   over-tied : (k u i : ℕ) (log buffer : List ℕ) (p : Place) (w : Wire) (a : Status) (s : State) → Rel p w a s → isGoing a ≡ false → buffer ≡ overlaid (bytesIn s) buffer₀
       → Goal k u i log buffer p w a (runs k s (drop i rs))

@@ -23,7 +23,8 @@ use Rattle.qspi_script.specs.declared.Status.the-variants.{Done, OutOfRange, Al
 use Rattle.qspi_calls.specs.declared.start.Config.{Config}
 use Rattle.qspi_calls.specs.declared.start.Latency.{Latency}
 use Rattle.qspi_calls.specs.declared.start.Latency.the-variants.{AsRead, Code}
-use Rattle.qspi_calls.specs.Machine.{Action, write, modify, drain, Transfer, opening, Script, ends, perform, repeats, none, exchange, onward}
+use Rattle.qspi_calls.specs.Chunks.{Chunk, chunks}
+use Rattle.qspi_calls.specs.Machine.{Action, write, modify, drain, Transfer, opening, Script, ends, perform, repeats, counts, none, exchange, onward}
 
 -- ---- transfers
 
@@ -176,29 +177,42 @@ setWriteProtection p =
 abbrev pub failing : Status → Script
 failing failure = exchange clearing (λ rs. exchange disabling (λ rs. refused failure))
 
-abbrev pub settling : ℕ → Status → Script
-settling bit failure =
+abbrev pub settling : ℕ → Status → Script → Script
+settling bit failure then =
     repeats drain (opening statusReading)
     (λ rs. not (isSet bit (top rs)) && isSet 0 (top rs))
-    (λ rs. onward (isSet bit (top rs)) (failing failure) (ends Done []))
+    (λ rs. onward (isSet bit (top rs)) (failing failure) then)
 
-abbrev pub working : ℕ → Status → Transfer → Script
-working bit failure x = exchange enabling (λ rs. exchange x (λ rs. settling bit failure))
+-- the work, and what comes once its status is clean
+abbrev pub working : ℕ → Status → Transfer → Script → Script
+working bit failure x then = exchange enabling (λ rs. exchange x (λ rs. settling bit failure then))
 
 -- rules 1 and 2, the sum taken in full
 abbrev pub eraseSector : ℕ → Script
 eraseSector a =
     onward (ltb 16777215 (a + 65536)) (refused OutOfRange)
-    (onward (eqb (a % 65536) 0) (working 5 EraseErrorBitSet (erasing a)) (refused Alignment))
+    (onward (eqb (a % 65536) 0) (working 5 EraseErrorBitSet (erasing a) (ends Done [])) (refused Alignment))
 
--- rules 1, 3, 4, 5
-abbrev pub program : ℕ → List ℕ → Script
-program a bs =
+-- rules 1, 3, 4, 5, and what comes once the bytes are programmed
+abbrev pub programThen : ℕ → List ℕ → Script → Script
+programThen a bs then =
     onward (ltb 16777215 (a + length bs)) (refused OutOfRange)
     (onward (ltb 240 (length bs)) (refused DataTooLarge)
     (onward (eqb (length bs % 4) 0)
-    (onward (ltb 256 (a % 256 + length bs)) (refused CrossesPageBoundary) (working 6 ProgrammingErrorBitSet (programming a bs)))
+    (onward (ltb 256 (a % 256 + length bs)) (refused CrossesPageBoundary) (working 6 ProgrammingErrorBitSet (programming a bs) then))
     (refused NotAligned)))
+
+abbrev pub program : ℕ → List ℕ → Script
+program a bs = programThen a bs (ends Done [])
+
+-- "calls program: 4 or 5 may come after finished chunks, whose accesses remain in the log and whose bytes the answer counts"
+abbrev pub pages : List Chunk → Script
+pages [] = ends Done []
+pages (c ∷ l) = programThen (c .address) (c .bytes) (counts (length (c .bytes)) (pages l))
+
+-- "`write_pages` gives 1 on the whole length first, then cuts into 128 bytes"
+abbrev pub writePages : ℕ → List ℕ → Script
+writePages a bs = onward (ltb 16777215 (a + length bs)) (refused OutOfRange) (pages (chunks a bs))
 
 -- "A read goes in chunks of 248 bytes, 247 with a dummy byte", until nothing is left; there are no more chunks than bytes
 abbrev pub readFrom : ℕ → Bool → Bool → ℕ → ℕ → Script

@@ -1,4 +1,5 @@
 pub mod Machine
+pub mod Chunks
 pub mod Calls
 pub mod Starts
 pub mod Values

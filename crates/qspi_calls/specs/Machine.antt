@@ -1,6 +1,6 @@
 -- A call over lists, to be read beside document 01's "One transfer, access by access": what a call does is a list of actions, and what it
 -- does after them is decided by the replies. Nothing here counts words or bytes; proofs/Tied shows that the steps of the code do the same.
-use Prim.Native.Nat.{ℕ, zero, suc}
+use Prim.Native.Nat.{ℕ, zero, suc, _+_}
 use mathlib.Core.Bool.{Bool, true, false, cond}
 use mathlib.Core.List.{List, [], _∷_, _++_, map, reverse}
 use lib.ListN.{length, drop}
@@ -93,6 +93,8 @@ pub data Script : Type 0 where
   perform : Action → List Action → (List ℕ → List ℕ) → (List ℕ → Script) → Script
   -- the same actions again while their replies say so
   repeats : Action → List Action → (List ℕ → Bool) → (List ℕ → Script) → Script
+  -- so many bytes more are programmed: "whose bytes the answer counts"
+  counts : ℕ → Script → Script
 
 abbrev pub none : List ℕ → List ℕ
 none rs = []
@@ -103,49 +105,55 @@ exchange x k = perform drain (opening x) none k
 
 pub data State : Type 0 where
   -- where the action at hand stands, the actions left, the replies taken of them (the newest first), what they bring, what comes then,
-  -- and the bytes brought before
-  going : Midway → Action → List Action → List ℕ → (List ℕ → List ℕ) → (List ℕ → Script) → List ℕ → State
-  ended : Status → List ℕ → List ℕ → State  -- status, values, bytes brought
+  -- the bytes brought before, and the count of bytes programmed
+  going : Midway → Action → List Action → List ℕ → (List ℕ → List ℕ) → (List ℕ → Script) → List ℕ → ℕ → State
+  ended : Status → List ℕ → List ℕ → ℕ → State  -- status, values, bytes brought, count of bytes programmed
 
 abbrev pub onward : Bool → Script → Script → Script
 onward true s t = s
 onward false s t = t
 
-abbrev pub begin : Script → List ℕ → State
-begin (ends a vs) bs = ended a vs bs
-begin (perform a l brings k) bs = going first a l [] brings k bs
-begin (repeats a l still k) bs = going first a l [] none (λ rs. onward (still rs) (repeats a l still k) (k rs)) bs
+abbrev pub begin : Script → List ℕ → ℕ → State
+begin (ends a vs) bs n = ended a vs bs n
+begin (perform a l brings k) bs n = going first a l [] brings k bs n
+begin (repeats a l still k) bs n = going first a l [] none (λ rs. onward (still rs) (repeats a l still k) (k rs)) bs n
+begin (counts j s) bs n = begin s bs (n + j)
 
-abbrev pub proceed : List Action → List ℕ → (List ℕ → List ℕ) → (List ℕ → Script) → List ℕ → State
-proceed [] taken brings k bs = begin (k (reverse taken)) (bs ++ brings (reverse taken))
-proceed (a ∷ l) taken brings k bs = going first a l taken brings k bs
+abbrev pub proceed : List Action → List ℕ → (List ℕ → List ℕ) → (List ℕ → Script) → List ℕ → ℕ → State
+proceed [] taken brings k bs n = begin (k (reverse taken)) (bs ++ brings (reverse taken)) n
+proceed (a ∷ l) taken brings k bs n = going first a l taken brings k bs n
 
-abbrev pub moves : Progress → Action → List Action → List ℕ → (List ℕ → List ℕ) → (List ℕ → Script) → List ℕ → State
-moves (stays m) a l taken brings k bs = going m a l taken brings k bs
-moves over a l taken brings k bs = proceed l taken brings k bs
-moves (takes v) a l taken brings k bs = proceed l (v ∷ taken) brings k bs
+abbrev pub moves : Progress → Action → List Action → List ℕ → (List ℕ → List ℕ) → (List ℕ → Script) → List ℕ → ℕ → State
+moves (stays m) a l taken brings k bs n = going m a l taken brings k bs n
+moves over a l taken brings k bs n = proceed l taken brings k bs n
+moves (takes v) a l taken brings k bs n = proceed l (v ∷ taken) brings k bs n
 
 abbrev pub want : State → Want
-want (going m a l taken brings k bs) = wantAt m a
-want (ended a vs bs) = nothing
+want (going m a l taken brings k bs n) = wantAt m a
+want (ended a vs bs n) = nothing
 
 -- the call after an access of a value
 abbrev pub next : State → ℕ → State
-next (going m a l taken brings k bs) v = moves (progress m a v) a l taken brings k bs
-next (ended a vs bs) v = ended a vs bs
+next (going m a l taken brings k bs n) v = moves (progress m a v) a l taken brings k bs n
+next (ended a vs bs n) v = ended a vs bs n
 
 abbrev pub statusIn : State → Status
-statusIn (going m a l taken brings k bs) = Going
-statusIn (ended a vs bs) = a
+statusIn (going m a l taken brings k bs n) = Going
+statusIn (ended a vs bs n) = a
 
 abbrev pub valuesIn : State → List ℕ
-valuesIn (going m a l taken brings k bs) = []
-valuesIn (ended a vs bs) = vs
+valuesIn (going m a l taken brings k bs n) = []
+valuesIn (ended a vs bs n) = vs
 
 -- the bytes brought for the lent buffer
 abbrev pub bytesIn : State → List ℕ
-bytesIn (going m a l taken brings k bs) = bs ++ brings (reverse taken)
-bytesIn (ended a vs bs) = bs
+bytesIn (going m a l taken brings k bs n) = bs ++ brings (reverse taken)
+bytesIn (ended a vs bs n) = bs
+
+-- the bytes programmed so far
+abbrev pub countIn : State → ℕ
+countIn (going m a l taken brings k bs n) = n
+countIn (ended a vs bs n) = n
 
 -- ---- a run
 
@@ -182,7 +190,7 @@ runs (suc n) s rs = made (want s) s n rs (runs n)
 
 -- a call from its start
 abbrev pub called : Script → ℕ → List ℕ → Result
-called c n rs = runs n (begin c []) rs
+called c n rs = runs n (begin c [] 0) rs
 
 -- the lent buffer after it: the bytes brought, then what was there
 abbrev pub overlaid : List ℕ → List ℕ → List ℕ

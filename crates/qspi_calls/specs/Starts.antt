@@ -15,7 +15,7 @@ use Rattle.qspi_transfer.specs.Wire.{freshWire}
 use Rattle.qspi_transfer.specs.declared.Phase.the-variants as phase
 use Rattle.qspi_transfer.specs.declared.low_level.Sequence.{Sequence}
 use Rattle.qspi_transfer.specs.declared.low_level.Sequence.the-variants as sequence
-use Rattle.qspi_script.specs.Turns.{nextChunk}
+use Rattle.qspi_script.specs.Turns.{nextChunk, nextPage}
 use Rattle.qspi_script.specs.declared.Stage.{Stage}
 use Rattle.qspi_script.specs.declared.Stage.the-variants as stage
 use Rattle.qspi_script.specs.declared.Status.{Status}
@@ -29,6 +29,7 @@ use Rattle.qspi_script.specs.declared.Reading.{Reading}
 use Rattle.qspi_script.specs.declared.LowLevel.{LowLevel}
 use Rattle.qspi_script.specs.declared.Job.{Job}
 use Rattle.qspi_script.specs.declared.Place.{Place}
+use Rattle.qspi_script.specs.declared.Turned.{Turned}
 use Rattle.qspi_operation.specs.declared.Op.{Op}
 use Rattle.qspi_calls.specs.declared.start.Config.{Config}
 use Rattle.qspi_calls.specs.declared.start.Latency.{Latency}
@@ -36,12 +37,12 @@ use Rattle.qspi_calls.specs.declared.start.Latency.the-variants.{AsRead,
 
 -- ---- a call as it was asked for
 
-abbrev pub then : Stage → Stage → Status → Bool → Purpose → Script
-then enable clear disable erases for =
-    record { «after_enable» = enable; «after_clear» = clear; «after_disable» = disable; erasing = erases; purpose = for }
+abbrev pub then : Stage → Stage → Status → Bool → Bool → Purpose → Script
+then enable clear disable erases pages for =
+    record { «after_enable» = enable; «after_clear» = clear; «after_disable» = disable; erasing = erases; paging = pages; purpose = for }
 
 abbrev pub plain : Script
-plain = then stage.End stage.End status.Done false purpose.Answer
+plain = then stage.End stage.End status.Done false false purpose.Answer
 
 abbrev pub notReading : Reading
 notReading = record { fast = false; dummy = false }
@@ -63,10 +64,10 @@ commandJob s log = jobOf (lent 0 0 log) s 0
 
 abbrev pub updatingJob : Stage → Purpose → Wanted → ℕ → Job
 updatingJob cleared for w log =
-    record { lent = lent 0 0 log; script = then stage.WriteRegisters cleared status.Done false for; addr = 0; reading = notReading; wanted = w; «low_level» = noRegisters }
+    record { lent = lent 0 0 log; script = then stage.WriteRegisters cleared status.Done false false for; addr = 0; reading = notReading; wanted = w; «low_level» = noRegisters }
 
-abbrev pub workingJob : Stage → Bool → Status → ℕ → ℕ → ℕ → Job
-workingJob work erases failure a n log = jobOf (lent n 0 log) (then work stage.Disable failure erases purpose.Answer) a
+abbrev pub workingJob : Stage → Bool → Bool → Status → ℕ → ℕ → ℕ → Job
+workingJob work erases pages failure a n log = jobOf (lent n 0 log) (then work stage.Disable failure erases pages purpose.Answer) a
 
 abbrev pub readingJob : ℕ → Bool → Bool → ℕ → ℕ → Job
 readingJob a fast dummy n log =
@@ -95,7 +96,7 @@ abbrev pub oneTransfer : Stage → ℕ → Op
 oneTransfer s log = going (commandJob plain log) (placeAt s 0 0 0)
 
 abbrev pub enabled : Stage → Script
-enabled s = then s stage.End status.Done false purpose.Answer
+enabled s = then s stage.End status.Done false false purpose.Answer
 
 abbrev pub enabledThen : Stage → ℕ → ℕ → ℕ → Op
 enabledThen s sr cr log = going (commandJob (enabled s) log) (placeAt stage.Enable 0 sr cr)
@@ -131,7 +132,7 @@ setWriteProtection p log =
     pick (ltb 7 p) (over (protectingJob p log) status.FieldTooWide) (going (protectingJob p log) (placeAt stage.ReadStatus 0 0 0))
 
 abbrev pub erasingJob : ℕ → ℕ → Job
-erasingJob a log = workingJob stage.Erase true status.EraseErrorBitSet a 0 log
+erasingJob a log = workingJob stage.Erase true false status.EraseErrorBitSet a 0 log
 
 abbrev pub eraseSector : ℕ → ℕ → Op
 eraseSector a log =
@@ -139,7 +140,7 @@ eraseSector a log =
     (pick (eqb (a % 65536) 0) (going (erasingJob a log) (placeAt stage.Enable 0 0 0)) (over (erasingJob a log) status.Alignment))
 
 abbrev pub programmingJob : ℕ → ℕ → ℕ → Job
-programmingJob a n log = workingJob stage.Program false status.ProgrammingErrorBitSet a n log
+programmingJob a n log = workingJob stage.Program false false status.ProgrammingErrorBitSet a n log
 
 abbrev pub programOf : ℕ → ℕ → ℕ → Op
 programOf a n log =
@@ -148,6 +149,18 @@ programOf a n log =
     (pick (eqb (n % 4) 0)
     (pick (ltb 256 (a % 256 + n)) (over (programmingJob a n log) status.CrossesPageBoundary) (going (programmingJob a n log) (placeAt stage.Enable n 0 0)))
     (over (programmingJob a n log) status.NotAligned)))
+
+-- where a turn leads: its first access is due, or none is
+abbrev pub opened : Job → Turned → Op
+opened job t = record { job = job; place = t .place; wire = freshWire phase.DrainStatus; used = 0; replies = 0; status = t .status }
+
+abbrev pub pagingJob : ℕ → ℕ → ℕ → Job
+pagingJob a n log = workingJob stage.Program false true status.ProgrammingErrorBitSet a n log
+
+-- "`write_pages` gives 1 on the whole length first, then cuts into 128 bytes and calls program"
+abbrev pub writePagesOf : ℕ → ℕ → ℕ → Op
+writePagesOf a n log =
+    pick (ltb 16777215 (a + n)) (over (pagingJob a n log) status.OutOfRange) (opened (pagingJob a n log) (nextPage (pagingJob a n log) (placeAt stage.Enable 0 0 0)))
 
 abbrev pub readOf : ℕ → Bool → Bool → ℕ → ℕ → Op
 readOf a fast dummy n log =

@@ -18,6 +18,7 @@ use qspi_script::Reading;
 use qspi_script::Script;
 use qspi_script::Stage;
 use qspi_script::Status;
+use qspi_script::Turned;
 use qspi_script::Wanted;
 use qspi_transfer::Phase;
 use qspi_transfer::low_level::Sequence;
@@ -43,6 +44,7 @@ const PLAIN: Script = Script {
     after_clear: Stage::End,
     after_disable: Status::Done,
     erasing: false,
+    paging: false,
     purpose: Purpose::Answer,
 };
 
@@ -182,6 +184,7 @@ fn enabled(stage: Stage) -> Script
         after_clear: Stage::End,
         after_disable: Status::Done,
         erasing: false,
+        paging: false,
         purpose: Purpose::Answer,
     }
 }
@@ -218,6 +221,7 @@ fn updating(after_clear: Stage, purpose: Purpose, wanted: Wanted, log: usize) ->
         after_clear,
         after_disable: Status::Done,
         erasing: false,
+        paging: false,
         purpose,
     };
     Job {
@@ -300,8 +304,16 @@ pub fn set_write_protection(protection: u8, log: usize) -> Op
 }
 
 // Write enable, the work, the status until it is clean; on error clear status and write disable.
-fn working(stage: Stage, erasing: bool, failure: Status, addr: u32, data: usize, log: usize) -> Job
-    ensures job { λ r. ⌜ r ≡ spec.workingJob stage erasing failure addr «data» log ⌝ }
+fn working(
+    stage: Stage,
+    erasing: bool,
+    paging: bool,
+    failure: Status,
+    addr: u32,
+    data: usize,
+    log: usize,
+) -> Job
+    ensures job { λ r. ⌜ r ≡ spec.workingJob stage erasing paging failure addr «data» log ⌝ }
 {
     let lent = Lent {
         data,
@@ -313,6 +325,7 @@ fn working(stage: Stage, erasing: bool, failure: Status, addr: u32, data: usize,
         after_clear: Stage::Disable,
         after_disable: failure,
         erasing,
+        paging,
         purpose: Purpose::Answer,
     };
     Job {
@@ -342,7 +355,15 @@ fn out_of_range(addr: u32, length: usize) -> bool
 pub fn erase_sector(addr: u32, log: usize) -> Op
     ensures start { λ r. ⌜ r ≡ spec.eraseSector addr log ⌝ }
 {
-    let job = working(Stage::Erase, true, Status::EraseErrorBitSet, addr, 0, log);
+    let job = working(
+        Stage::Erase,
+        true,
+        false,
+        Status::EraseErrorBitSet,
+        addr,
+        0,
+        log,
+    );
     if out_of_range(addr, 0x10000) {
         return over(job, Status::OutOfRange);
     }
@@ -357,6 +378,7 @@ pub fn program(addr: u32, data: usize, log: usize) -> Op
 {
     let job = working(
         Stage::Program,
+        false,
         false,
         Status::ProgrammingErrorBitSet,
         addr,
@@ -376,6 +398,43 @@ pub fn program(addr: u32, data: usize, log: usize) -> Op
         return over(job, Status::CrossesPageBoundary);
     }
     going(job, place(Stage::Enable, data as u8, 0, 0))
+}
+
+// Where a turn leads: its first access is due, or none is.
+fn opened(job: Job, turned: Turned) -> Op
+    ensures start { λ r. ⌜ r ≡ spec.opened job turned ⌝ }
+{
+    let wire = qspi_transfer::begin(Phase::DrainStatus);
+    let place = turned.place;
+    let status = turned.status;
+    Op {
+        job,
+        place,
+        wire,
+        used: 0,
+        replies: 0,
+        status,
+    }
+}
+
+// 1 on the whole length, before any chunk; then each chunk when its turn comes.
+pub fn write_pages(addr: u32, data: usize, log: usize) -> Op
+    ensures start { λ r. ⌜ r ≡ spec.writePagesOf addr «data» log ⌝ }
+{
+    let job = working(
+        Stage::Program,
+        false,
+        true,
+        Status::ProgrammingErrorBitSet,
+        addr,
+        data,
+        log,
+    );
+    if out_of_range(addr, data) {
+        return over(job, Status::OutOfRange);
+    }
+    let first = qspi_script::next_page(job, place(Stage::Enable, 0, 0, 0));
+    opened(job, first)
 }
 
 // addr + length above 4,294,967,296, the sum taken in full.

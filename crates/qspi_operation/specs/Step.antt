@@ -1,7 +1,7 @@
 -- A step of an operation: what is due, what is answered, and the log and buffer after it. Document 01, "What changes shape" and "What the
 -- state can bring on".
 use Prim.Native.Nat.{ℕ, _+_, _%_, _^_}
-use mathlib.Core.Bool.{Bool, true, false, _&&_}
+use mathlib.Core.Bool.{Bool, true, false, cond, _&&_}
 use mathlib.Core.List.{List}
 use lib.Dec.{ltb, leb, eqb}
 use lib.ListN.{length, getD, set}
@@ -203,3 +203,13 @@ pickReply false a b = b
 
 abbrev pub replyOf : List ℕ → ℕ → Reply
 replyOf replies at = pickReply (ltb at (length replies)) (Word (getD replies at 0)) Nothing
+
+-- ---- the bytes programmed
+
+-- "4 or 5 may come after finished chunks, .. whose bytes the answer counts"; "the failed chunk isn't counted": the bytes done are those of
+-- the finished chunks, and only `write_pages` has chunks
+abbrev pub programmedAt : Job → Place → ℕ
+programmedAt job p = cond (job .script .paging) (p .done) 0
+
+abbrev pub programmedOf : Op → ℕ
+programmedOf o = programmedAt (o .job) (o .place)

@@ -4,7 +4,7 @@ ghost use mathlib.Core.Path.{_≡_};
 ghost use Prim.Native.Nat.{_+_, _≤_};
 ghost use lib.Dec.{leb};
 ghost use lib.ListN.{length};
-ghost use Rattle.qspi_operation.specs.Step.{isGoing, registerAccess, sendAccess, turnedOn, wentOn, accessOf, shown, dueOf, answered, sameLengths, going, verdictOf, stopped, counted, moved, written, replyOf, stepOf, logOf, bufferOf};
+ghost use Rattle.qspi_operation.specs.Step.{isGoing, registerAccess, sendAccess, turnedOn, wentOn, accessOf, shown, dueOf, answered, sameLengths, going, verdictOf, stopped, counted, moved, written, replyOf, stepOf, logOf, bufferOf, programmedOf};
 ghost use Rattle.qspi_operation.specs.Run.{runOf, Ran};
 use qspi_script::Job;
 use qspi_script::Place;
@@ -412,4 +412,14 @@ pub fn run(op: Op, data: &[u8], buffer: &mut [u8], log: &mut [u32], replies: &[u
         answer = s.answer;
     }
     Stepped { op: o, answer }
+}
+
+// The bytes that the answer of `write_pages` counts: those of the chunks that ended clean.
+pub fn programmed(op: Op) -> usize
+    ensures count { λ r. ⌜ r ≡ programmedOf op ⌝ }
+{
+    let job = op.job;
+    let script = job.script;
+    let place = op.place;
+    if script.paging { place.done } else { 0 }
 }

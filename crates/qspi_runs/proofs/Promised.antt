@@ -14,8 +14,9 @@ use Rattle.qspi_script.specs.declared.Status.{Status}
 use Rattle.qspi_operation.specs.declared.Op.{Op}
 use Rattle.qspi_operation.specs.declared.Stepped.{Stepped}
 use Rattle.qspi_operation.specs.Run.{runOf}
+use Rattle.qspi_operation.specs.Step.{programmedOf}
 use Rattle.qspi_operation.specs.Run as by-counters
-use Rattle.qspi_calls.specs.Machine.{Script, Result, valuesIn, called}
+use Rattle.qspi_calls.specs.Machine.{Script, Result, valuesIn, countIn, called}
 use Rattle.qspi_calls.specs.Values.{isDone, whenDone}
 use Rattle.qspi_calls.proofs.OneTransfer.{register-value, id-values, long-id-values}
 use Rattle.qspi_calls.proofs.LowLevelCalls.{clock-value}
@@ -27,12 +28,13 @@ module _ (Values : Status → Wire → List ℕ) (c : Script) (bytes rs log buff
   abbrev result : Result
   result = called c (length log / 2) rs
 
-  -- answer, counts and log; and where the values stand
+  -- answer, counts and log; where the values stand; the bytes programmed
   pub record Kept (s : Stepped) (log₁ : List ℕ) : Type 0 where
     pub ran : handed s ≡ ranOf result
     pub logged : log₁ ≡ loggedOf result log
     pub values : valuesIn (result .state) ≡ Values (s .answer) (s .op .wire)
     pub answer : s .answer ≡ result .answer
+    pub counted : countIn (result .state) ≡ programmedOf (s .op)
 
   pub kept-by : {o o₀ : Op} {s : Stepped} {log₁ : List ℕ} → length rs < 2 ^ 64 → o ≡ o₀ → Starts o₀ bytes log buffer Values c → Ended s log₁ (runOf o bytes rs buffer log) → Kept s log₁
   kept-by {o} {o₀} {s} {log₁} fits e h n =
@@ -43,6 +45,7 @@ module _ (Values : Status → Wire → List ℕ) (c : Script) (bytes rs log buff
         logged = n′ .logged ∙ w .logged;
         values = rw (n′ .answer, n′ .op) (w .values);
         answer = n′ .answer ∙ w .answer;
+        counted = rw (n′ .op) (w .counted);
       }
 
   -- for a call that hands back no value

@@ -51,7 +51,8 @@ pub struct ClockRan {
     pub lqspi_clk_ctrl: u32,
 }
 
-fn finish(s: Stepped) -> Ran
+// What a run hands back.
+pub fn finish(s: Stepped) -> Ran
     ensures ran { λ r. ⌜ r ≡ handed s ⌝ }
 {
     let op = s.op;

@@ -9,7 +9,7 @@ use Rattle.zedboard_bsp.specs.Registers.{protected, configuredCr, configuredSr,
 use Rattle.qspi_script.specs.declared.Stage.{Stage}
 use Rattle.qspi_script.specs.declared.Stage.the-variants.{Enable, Disable, Clear, ReadStatus, ReadConfig, WriteStatus, WriteRegisters, ReadId, ReadLongId, Erase, Program, Poll, Read, Registers, End}
 use Rattle.qspi_script.specs.declared.Status.{Status}
-use Rattle.qspi_script.specs.declared.Status.the-variants.{Going, Done}
+use Rattle.qspi_script.specs.declared.Status.the-variants.{Going, Done, NotAligned, CrossesPageBoundary}
 use Rattle.qspi_script.specs.declared.Purpose.{Purpose}
 use Rattle.qspi_script.specs.declared.Purpose.the-variants.{Answer, Configure, Protect}
 use Rattle.qspi_script.specs.declared.Script.{Script}
@@ -17,6 +17,7 @@ use Rattle.qspi_script.specs.declared.Wanted.{Wanted}
 use Rattle.qspi_script.specs.declared.Job.{Job}
 use Rattle.qspi_script.specs.declared.Place.{Place}
 use Rattle.qspi_script.specs.declared.Turned.{Turned}
+use Rattle.qspi_script.specs.Stages.{chunkAddress}
 
 abbrev pub statusOf : Stage → Status
 statusOf Enable = Going
@@ -69,12 +70,41 @@ pickNext p = pick (eqb (p .chunk) 0) (finish p Done) (begin p Read)
 abbrev pub readOn : Job → Place → Turned
 readOn job p = pickNext (nextRead job p ((p .done + p .chunk) % 2 ^ 64))
 
+-- "`write_pages` .. cuts into 128 bytes and calls program"
+abbrev pub largestPage : ℕ
+largestPage = 128
+
+abbrev pub pageChunk : ℕ → ℕ → ℕ
+pageChunk length done = min (length - done) largestPage
+
+-- the place of the chunk after the bytes done
+abbrev pub pageAt : Job → Place → Place
+pageAt job p = record { stage = Enable; done = p .done; chunk = pageChunk (job .lent .«data») (p .done); sr = p .sr; cr = p .cr }
+
+-- rules 4 and 5 of `program`, in its order; 1 and 3 a chunk cannot meet
+abbrev pub pickPage : Job → Place → Turned
+pickPage job p =
+    pick (eqb (p .chunk) 0) (finish p Done)
+    (pick (eqb (p .chunk % 4) 0)
+    (pick (ltb 256 (chunkAddress job p % 256 + p .chunk)) (finish p CrossesPageBoundary) (begin p Enable))
+    (finish p NotAligned))
+
+abbrev pub nextPage : Job → Place → Turned
+nextPage job p = pickPage job (pageAt job p)
+
+-- the chunk at hand is finished: "its status loop has ended clean"
+abbrev pub grown : Place → Place
+grown p = record { stage = p .stage; done = (p .done + p .chunk) % 2 ^ 64; chunk = p .chunk; sr = p .sr; cr = p .cr }
+
+abbrev pub settled : Job → Place → Turned
+settled job p = pick (job .script .paging) (nextPage job (grown p)) (finish p Done)
+
 -- "the error bit (6 for program, 5 for erase) tested before bit 0"
 abbrev pub failed : Script → ℕ → Bool
 failed s status = cond (s .erasing) (isSet 5 status) (isSet 6 status)
 
 abbrev pub polled : Job → Place → ℕ → Turned
-polled job p status = pick (failed (job .script) status) (begin p Clear) (pick (isSet 0 status) (begin p Poll) (finish p Done))
+polled job p status = pick (failed (job .script) status) (begin p Clear) (pick (isSet 0 status) (begin p Poll) (settled job p))
 
 -- `new` has read both registers
 abbrev pub configured : Wanted → Place → ℕ → Turned

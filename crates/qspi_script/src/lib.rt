@@ -3,7 +3,7 @@
 ghost use mathlib.Core.Path.{_≡_};
 ghost use Prim.Native.Nat.{_≤_};
 ghost use Rattle.qspi_script.specs.Stages.{numberOf, oneWord, readWords, readFrame, registersFrame, frameOf, chunkAddress, readWord, firstWord, dataWord, furtherWord, dueWord};
-ghost use Rattle.qspi_script.specs.Turns.{statusOf, begin, finish, withRegisters, nextChunk, readOn, failed, polled, configured, protecting, statusRead, configRead, turnOf};
+ghost use Rattle.qspi_script.specs.Turns.{statusOf, begin, finish, withRegisters, nextChunk, readOn, pageChunk, nextPage, settled, failed, polled, configured, protecting, statusRead, configRead, turnOf};
 use qspi_transfer::Frame;
 use qspi_transfer::low_level::Sequence;
 use zedboard_bsp::qspi_spansion::RegisterId;
@@ -82,12 +82,14 @@ pub enum Purpose {
     Protect,
 }
 
-// What comes after what, where calls differ. `erasing` picks the error bit.
+// What comes after what, where calls differ. `erasing` picks the error bit; `paging` is `write_pages`,
+// which goes on with the next chunk once one is programmed.
 pub struct Script {
     pub after_enable: Stage,
     pub after_clear: Stage,
     pub after_disable: Status,
     pub erasing: bool,
+    pub paging: bool,
     pub purpose: Purpose,
 }
 
@@ -433,6 +435,65 @@ fn read_on(job: Job, place: Place) -> Turned
     }
 }
 
+// How many bytes the next chunk of `write_pages` has: what is left, but at most 128.
+fn page_chunk(length: usize, done: usize) -> u8
+    ensures chunk { λ r. ⌜ r ≡ pageChunk length done ⌝ }
+{
+    if length <= done {
+        return 0;
+    }
+    if length - done < 128 {
+        return (length - done) as u8;
+    }
+    128
+}
+
+// The chunk of `write_pages` after the bytes done: its write enable, or the end, or what `program`
+// refuses it for, 4 before 5. 1 was tested on the whole length, and no chunk is too large for 3.
+pub fn next_page(job: Job, place: Place) -> Turned
+    ensures turned { λ r. ⌜ r ≡ nextPage job place ⌝ }
+{
+    let lent = job.lent;
+    let chunk = page_chunk(lent.data, place.done);
+    let next = Place {
+        stage: Stage::Enable,
+        done: place.done,
+        chunk,
+        sr: place.sr,
+        cr: place.cr,
+    };
+    if chunk == 0 {
+        return ended(next, Status::Done);
+    }
+    if chunk % 4 != 0 {
+        return ended(next, Status::NotAligned);
+    }
+    if 256 < chunk_address(job, next) % 256 + chunk as u32 {
+        return ended(next, Status::CrossesPageBoundary);
+    }
+    begun(next, Stage::Enable)
+}
+
+// Program or erase has ended clean. Only here do the bytes of a chunk count as programmed.
+fn settle(job: Job, place: Place) -> Turned
+    ensures turned { λ r. ⌜ r ≡ settled job place ⌝ }
+{
+    let script = job.script;
+    let stage = place.stage;
+    let grown = Place {
+        stage,
+        done: std::num::wrapping_add_usize(place.done, place.chunk as usize),
+        chunk: place.chunk,
+        sr: place.sr,
+        cr: place.cr,
+    };
+    if script.paging {
+        next_page(job, grown)
+    } else {
+        ended(place, Status::Done)
+    }
+}
+
 // Whether the status byte shows the error bit of the work at hand.
 fn has_failed(script: Script, status: u8) -> bool
     ensures bit { λ r. ⌜ r ≡ failed script status ⌝ }
@@ -455,7 +516,7 @@ fn poll_end(job: Job, place: Place, status: u8) -> Turned
     if StatusRegister1(status).write_in_progress() {
         return begun(place, Stage::Poll);
     }
-    ended(place, Status::Done)
+    settle(job, place)
 }
 
 // `new` has read both registers: it writes them where something asked for is not so yet.

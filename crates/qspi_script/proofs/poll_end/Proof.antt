@@ -6,7 +6,7 @@ use Rattle.qspi_script.proofs.poll_end.Tie as tie
 use Rattle.qspi_script.proofs.poll_end.Reads as reads
 use Rattle.qspi_script.proofs.poll_end.Lts as lts
 use Rattle.qspi_script.proofs.begun.Reads as begun-reads
-use Rattle.qspi_script.proofs.ended.Reads as ended-reads
+use Rattle.qspi_script.proofs.settle.Reads as settle-reads
 use Rattle.qspi_script.proofs.has_failed.Reads as has-failed-reads
 use Rattle.zedboard_bsp.proofs.qspi_spansion.StatusRegister1.write_in_progress.Reads as write-in-progress-reads
 
@@ -35,12 +35,12 @@ returns-2 : tie.Need-returns-2
 returns-2 c = simp (c .begun2 .ensures, c .before .if2 .taken, ← c .before .before .write-in-progress .ensures, c .before .before .before .if1 .left, ← c .before .before .before .before .has-failed .ensures)
 
 -- src/lib.rt:457:5
-ended-requires : tie.Need-ended-requires
-ended-requires c κs = search needs
+settle-requires : tie.Need-settle-requires
+settle-requires c κs = search needs
 
 -- src/lib.rt:447:1
 returns-3 : tie.Need-returns-3
-returns-3 c = simp (c .ended .ensures, c .before .if2 .left, ← c .before .before .write-in-progress .ensures, c .before .before .before .if1 .left, ← c .before .before .before .before .has-failed .ensures)
+returns-3 c = simp (c .settle .ensures, c .before .if2 .left, ← c .before .before .write-in-progress .ensures, c .before .before .before .if1 .left, ← c .before .before .before .before .has-failed .ensures)
 
 pub poll-end-spec : {M : Type 1} → statement M
 poll-end-spec =
@@ -52,5 +52,5 @@ poll-end-spec =
     write-in-progress-requires
     begun-requires-2
     returns-2
-    ended-requires
+    settle-requires
     returns-3)

@@ -1,0 +1,75 @@
+-- The definition of the flash read back: an erase makes the sector that holds its address FF and nothing else, both commands need the latch,
+-- and no command reaches past the array's 16,777,216 bytes. Assumes nothing.
+use mathlib.Core.Path.{_≡_, refl, ap, _∙_, sym}
+use mathlib.Core.Bool.{Bool, true, false, cond, _&&_, true≢false}
+use mathlib.Core.Option.{Option, none, some}
+use mathlib.Core.List.{List, [], _∷_, _++_}
+use Prim.Native.Nat.{ℕ, zero, suc, _+_, _*_, _/_, _%_, _≤_, _<_}
+use native.Mathlib.Omega.{arith}
+use lib.Dec.{eqb, leb, ltb}
+use borrow.Author.Tests.{eq-eqb, ne-eqb, eqb-true, eqb-false, leb-true, le-leb, lt-ltb, le-ltb}
+use Rattle.qspi_calls.specs.Chunks.{Chunk}
+use Rattle.power_cut.specs.Flash.{Array, Command, pageProgram, sectorErase, addressOf, programOf, eraseOf, commandOf, byteAddress, landsFrom, lands, erased, Work, programming, erasing, Flash, flash, obey, execute, Settles, settles}
+
+abbrev arrayOf : Flash → Array
+arrayOf (flash m latch w) = m
+
+outside : (h x : ℕ) → (x / 65536 ≡ h → ⊥) → h * 65536 ≤ x → h * 65536 + 65536 ≤ x
+outside h x d f = omega (arith, d)
+
+erased-by : (h x : ℕ) (m : Array) (b : Bool) → eqb (x / 65536) h ≡ b → erased (h * 65536) 65536 m x ≡ cond b 0xFF (m x)
+unfolding erased
+erased-by h x m true e =
+    let d = eqb-true (x / 65536) h e in
+    rw (le-leb (h * 65536) x (omega (arith, d)), lt-ltb x (h * 65536 + 65536) (omega (arith, d)))
+erased-by h x m false e = go (leb (h * 65536) x) refl
+  where
+    go : (b : Bool) → leb (h * 65536) x ≡ b → cond (b && ltb x (h * 65536 + 65536)) 0xFF (m x) ≡ m x
+    go false f = refl
+    go true f = rw (le-ltb x (h * 65536 + 65536) (outside h x (eqb-false (x / 65536) h e) (leb-true (h * 65536) x f)))
+
+-- "each byte of an erased 64 KiB sector is FF"
+pub erase-law : (m : Array) (h l₁ l₀ x : ℕ) → l₁ < 256 → l₀ < 256 → {g : Flash} → Settles (execute (flash m true none) (0xD8 ∷ h ∷ l₁ ∷ l₀ ∷ [])) g
+    → arrayOf g x ≡ cond (eqb (x / 65536) h) 0xFF (m x)
+unfolding execute obey commandOf eraseOf
+erase-law m h l₁ l₀ x p q settles =
+    let e : addressOf h l₁ l₀ / 65536 * 65536 ≡ h * 65536 = omega arith in
+    rw e (erased-by h x m (eqb (x / 65536) h) refl)
+
+-- "need the latch"
+pub program-needs-latch : (m : Array) (bs : List ℕ) → execute (flash m false none) (0x02 ∷ bs) ≡ flash m false none
+unfolding execute obey commandOf programOf
+program-needs-latch m [] = refl
+program-needs-latch m (a ∷ []) = refl
+program-needs-latch m (a ∷ b ∷ []) = refl
+program-needs-latch m (a ∷ b ∷ c ∷ []) = refl
+program-needs-latch m (a ∷ b ∷ c ∷ d ∷ ds) = refl
+
+pub erase-needs-latch : (m : Array) (bs : List ℕ) → execute (flash m false none) (0xD8 ∷ bs) ≡ flash m false none
+unfolding execute obey commandOf eraseOf
+erase-needs-latch m [] = refl
+erase-needs-latch m (a ∷ []) = refl
+erase-needs-latch m (a ∷ b ∷ []) = refl
+erase-needs-latch m (a ∷ b ∷ c ∷ ds) = refl
+
+-- "A program command without data changes nothing"
+pub no-data : (m : Array) (latch : Bool) (h l₁ l₀ : ℕ) → execute (flash m latch none) (0x02 ∷ h ∷ l₁ ∷ l₀ ∷ []) ≡ flash m latch none
+unfolding execute obey commandOf programOf
+no-data m latch h l₁ l₀ = refl
+
+-- "The array has 16,777,216 bytes"
+lands-from-within : (a x : ℕ) (bs : List ℕ) (i v : ℕ) → a < 16777216 → landsFrom a x bs i ≡ some v → x < 16777216
+unfolding landsFrom byteAddress
+lands-from-within a x [] i v h e = let z : _≡_ {A = Bool} true false = cc in absurd (true≢false z)
+lands-from-within a x (b ∷ bs) i v h e = go (eqb x (byteAddress a i)) refl e (λ f. lands-from-within a x bs (suc i) v h f)
+  where
+    go : (c : Bool) → eqb x (byteAddress a i) ≡ c → cond c (some b) (landsFrom a x bs (suc i)) ≡ some v → (landsFrom a x bs (suc i) ≡ some v → x < 16777216) → x < 16777216
+    go true f e k = omega (arith, eqb-true x (byteAddress a i) f)
+    go false f e k = k e
+
+pub program-within : (h l₁ l₀ x v : ℕ) (bs : List ℕ) → h < 256 → l₁ < 256 → l₀ < 256 → lands (record { address = addressOf h l₁ l₀; bytes = bs }) x ≡ some v → x < 16777216
+unfolding lands
+program-within h l₁ l₀ x v bs p q r e = lands-from-within (addressOf h l₁ l₀) x bs 0 v (omega arith) e
+
+pub erase-within : (h l₁ l₀ : ℕ) → h < 256 → l₁ < 256 → l₀ < 256 → addressOf h l₁ l₀ / 65536 * 65536 + 65536 ≤ 16777216
+erase-within h l₁ l₀ p q r = omega arith

@@ -1,0 +1,15 @@
+pub mod Driver
+pub mod Fits
+pub mod Watch
+pub mod Lands
+pub mod Levels
+pub mod Control
+pub mod OnDevice
+pub mod Doubt
+pub mod Theorem
+pub mod Ways
+pub mod Possible
+pub mod FlashLaws
+pub mod Examples
+pub mod WrongDrivers
+pub mod Promised

@@ -1,0 +1,57 @@
+-- What the run of `write_pages` promises, out of the tie of its start to its script. Assumes nothing.
+use mathlib.Core.Path.{_≡_, refl, ap, _∙_, sym}
+use mathlib.Core.List.{List, [], _∷_, _++_}
+use Prim.Native.Nat.{ℕ, zero, suc, _*_, _/_, _^_, _<_}
+use lib.ListN.{length, getD, take, drop}
+use lib.Seq.{take-at}
+use Rattle.zynq7000.specs.Access.{encode}
+use Rattle.qspi_operation.specs.declared.Op.{Op}
+use Rattle.qspi_operation.specs.declared.Stepped.{Stepped}
+use Rattle.qspi_operation.specs.Run.{runOf}
+use Rattle.qspi_operation.specs.Step.{programmedOf}
+use Rattle.qspi_calls.specs.Machine.{Result, countIn, called}
+use Rattle.qspi_calls.specs.Calls.{writePages}
+use Rattle.qspi_calls.specs.Starts.{writePagesOf}
+use Rattle.qspi_calls.proofs.Outcome.{length-encode}
+use Rattle.qspi_calls.proofs.Short.{no-values}
+use Rattle.qspi_calls.proofs.WireOrder.{AllBytes}
+use Rattle.qspi_calls.proofs.Pages.{write-pages}
+use Rattle.qspi_runs.specs.declared.Ran.{Ran}
+use Rattle.qspi_runs.specs.Promise.{ranOf, loggedOf, handed, Ended}
+use Rattle.qspi_runs.proofs.Promised.{kept-by}
+use Rattle.power_cut.specs.Promise.{Saved}
+use Rattle.power_cut.proofs.Theorem.{power-cut}
+
+-- what is lent as bytes is bytes
+all-bytes : (bs : List ℕ) → ((i : ℕ) → getD bs i 0 < 256) → AllBytes bs
+all-bytes [] h = tt
+all-bytes (b ∷ bs) h = (h 0, all-bytes bs (λ i. h (suc i)))
+
+module _ (a : ℕ) (bytes rs log : List ℕ) where
+  abbrev pub result : Result
+  result = called (writePages a bytes) (length log / 2) rs
+
+  -- answer and used counts, bytes programmed, log, and the power-cut statement
+  pub record Promised (r : Ran) (n : ℕ) (log₁ : List ℕ) : Type 0 where
+    pub ran : r ≡ ranOf result
+    pub counted : n ≡ countIn (result .state)
+    pub logged : log₁ ≡ loggedOf result log
+    pub cut : Saved a bytes (record { ran = r; programmed = n }) log₁
+
+  saved : AllBytes bytes → Saved a bytes (record { ran = ranOf result; programmed = countIn (result .state) }) (loggedOf result log)
+  saved h = record {
+    accesses = result .log;
+    is-log = take-at (encode (result .log)) (drop (2 * length (result .log)) log) (2 * length (result .log)) (length-encode (result .log));
+    claim = power-cut a bytes h (length log / 2) rs;
+  }
+
+  carry : {r r₁ : Ran} {n n₁ : ℕ} {l l₁ : List ℕ} → r ≡ r₁ → n ≡ n₁ → l ≡ l₁ → Saved a bytes (record { ran = r₁; programmed = n₁ }) l₁ → Saved a bytes (record { ran = r; programmed = n }) l
+  carry e f g h = rw (e, f, g) h
+
+  pub promised : {o : Op} {s : Stepped} {r : Ran} {n : ℕ} {log₁ : List ℕ} → length rs < 2 ^ 64 → ((i : ℕ) → getD bytes i 0 < 256) → o ≡ writePagesOf a (length bytes) (length log) → Ended s log₁ (runOf o bytes rs [] log)
+      → n ≡ programmedOf (s .op) → r ≡ handed s → Promised r n log₁
+  promised fits octets e h f g =
+      let k = kept-by no-values (writePages a bytes) bytes rs log [] fits e (write-pages a bytes log) h in
+      let ran₁ = g ∙ k .ran in
+      let counted₁ = f ∙ sym (k .counted) in
+      record { ran = ran₁; counted = counted₁; logged = k .logged; cut = carry ran₁ counted₁ (k .logged) (saved (all-bytes bytes octets)) }

@@ -1,0 +1,281 @@
+-- The power-cut statement, proved of every run of `write_pages` over lists. Assumes nothing.
+use mathlib.Core.Path.{_≡_, refl, ap, _∙_, sym}
+use mathlib.Core.Bool.{Bool, true, false, cond, _&&_}
+use mathlib.Core.Option.{Option, none, some}
+use mathlib.Core.Logic.{_⊎_, inl, inr}
+use mathlib.Core.List.{List, [], _∷_, _++_, append-nil}
+use Prim.Native.Nat.{ℕ, zero, suc, _+_, _%_, _≤_, _<_}
+use native.Mathlib.Omega.{arith}
+use lib.Bits.{bitAnd}
+use lib.Dec.{ltb}
+use lib.ListN.{length, getD, take}
+use Rattle.zynq7000.specs.Access.{valueWord}
+use Rattle.zynq7000.specs.Bits.{isSet}
+use Rattle.zynq7000.specs.declared.qspi.Access.{Access}
+use Rattle.zynq7000.specs.declared.qspi.Access.the-variants as access
+use Rattle.qspi_script.specs.declared.Status.{Status}
+use Rattle.qspi_script.specs.declared.Status.the-variants.{Done, OutOfRange}
+use Rattle.qspi_calls.specs.Chunks.{Chunk, chunks, Among}
+use Rattle.qspi_calls.specs.Machine.{Want, reads, writes, nothing, State, going, ended, begin, want, next, statusIn, countIn, Result, noRoom, made, runs, called}
+use Rattle.qspi_calls.specs.Calls.{writePages}
+use Rattle.qspi_calls.proofs.WireOrder.{AllBytes}
+use Rattle.power_cut.specs.Flash.{Array, lands, Flash, flash, AfterCut}
+use Rattle.power_cut.specs.Controller.{high, manual, Device, device, flashOf, Silent, out, unasked, idle, effect, Gives, AllOut, Trace, still, quiet, step, Rests, rests}
+use Rattle.power_cut.specs.Observer.{Seen, closed, seen, Observed, see, sees, fresh, observed}
+use Rattle.power_cut.specs.Statement.{In, total, NextOnly, no-doubt, the-next, Kept, PowerCut}
+use Rattle.power_cut.proofs.Driver.{Phase, isLast, Stage, enables, programs, polls, clears, disables, Ending, succeeded, failed, refuses, Driver, at, over, stateOf, startNext, driverAfter, driverStart, next-is, start-is}
+use Rattle.power_cut.proofs.Fits.{Fit, AllFit, Going, Good, good-next, good-driver}
+use Rattle.power_cut.proofs.Watch.{Matches, m-read, m-write, view, view-start, watch}
+use Rattle.power_cut.proofs.Lands.{applied, lands-out, spared, beside, Ordered, applied-in, applied-out, chunks-ordered, chunks-total, ordered-front, ordered-seam}
+use Rattle.power_cut.proofs.Control.{Up, held}
+use Rattle.power_cut.proofs.OnDevice.{Calm, calm, Ready, ready, Works, under, past, FlashAt, Known, NotFailed, OnDevice, during, silent, begins, advance}
+use Rattle.power_cut.proofs.OnDevice as on
+use Rattle.power_cut.proofs.Doubt.{upOf, doubtAt, doubtNow, start-doubt, showing, edge}
+
+-- ---- the logs that a machine makes
+
+abbrev pub Follows : State → List Access → Type 0
+Follows s [] = Unit {0}
+Follows s (a ∷ l) = Matches (want s) a × Follows (next s (valueWord a)) l
+
+abbrev pub after : State → List Access → State
+after s [] = s
+after s (a ∷ l) = after (next s (valueWord a)) l
+
+pub follows-take : (k : ℕ) (s : State) (l : List Access) → Follows s l → Follows s (take k l)
+follows-take zero s l h = tt
+follows-take (suc k) s [] h = tt
+follows-take (suc k) s (a ∷ l) h = (h .0, follows-take k (next s (valueWord a)) l (h .1))
+
+-- a run makes such a log, and ends in the state after it; it answers Done only where that state does
+pub record Made (s : State) (r : Result) : Type 0 where
+  pub follows : Follows s (r .log)
+  pub ends : r .state ≡ after s (r .log)
+  pub answers : r .answer ≡ Done → statusIn (after s (r .log)) ≡ Done
+
+no-room : (w : Want) (s : State) (rs : List ℕ) → Made s (noRoom w s rs)
+no-room nothing s rs = record { follows = tt; ends = refl; answers = λ z. z }
+no-room (reads o) s rs = record { follows = tt; ends = refl; answers = λ z. let y : _≡_ {A = ℕ} 0 1 = cc in absurd (omega (arith, y)) }
+no-room (writes o v) s rs = record { follows = tt; ends = refl; answers = λ z. let y : _≡_ {A = ℕ} 0 1 = cc in absurd (omega (arith, y)) }
+
+one-more : (w : Want) (s : State) (n : ℕ) (rs : List ℕ) (run : State → List ℕ → Result) → want s ≡ w → ((t : State) (vs : List ℕ) → Made t (run t vs)) → Made s (made w s n rs run)
+one-more nothing s n rs run e h = record { follows = tt; ends = refl; answers = λ z. z }
+one-more (reads o) s n [] run e h = record { follows = tt; ends = refl; answers = λ z. let y : _≡_ {A = ℕ} 0 1 = cc in absurd (omega (arith, y)) }
+one-more (reads o) s n (v ∷ vs) run e h =
+    let m = h (next s v) vs in
+    let q : Matches (want s) (access.Read o v) = rw e m-read in
+    record { follows = (q, m .follows); ends = m .ends; answers = m .answers }
+one-more (writes o v) s n rs run e h =
+    let m = h (next s v) rs in
+    let q : Matches (want s) (access.Write o v) = rw e m-write in
+    record { follows = (q, m .follows); ends = m .ends; answers = m .answers }
+
+pub makes : (n : ℕ) (s : State) (rs : List ℕ) → Made s (runs n s rs)
+unfolding runs
+makes zero s rs = no-room (want s) s rs
+makes (suc n) s rs = one-more (want s) s n rs (runs n) refl (makes n)
+
+-- ---- the driver along such a log
+
+abbrev pub driven : Driver → List Access → Driver
+driven d [] = d
+driven d (a ∷ l) = driven (driverAfter d (valueWord a)) l
+
+pub driven-is : (d : Driver) (l : List Access) → after (stateOf d) l ≡ stateOf (driven d l)
+driven-is d [] = refl
+driven-is d (a ∷ l) = rw (next-is d (valueWord a)) (driven-is (driverAfter d (valueWord a)) l)
+
+pub follows-on : (d : Driver) (a : Access) (l : List Access) → Follows (stateOf d) (a ∷ l) → Follows (stateOf (driverAfter d (valueWord a))) l
+follows-on d a l f = rw (next-is d (valueWord a)) at f .1
+
+pub good-driven : (whole : List Chunk) (d : Driver) (l : List Access) → Good whole d → Good whole (driven d l)
+good-driven whole d [] g = g
+good-driven whole d (a ∷ l) g = good-driven whole (driverAfter d (valueWord a)) l (good-next whole d (valueWord a) g)
+
+-- ---- what the log shows of finished chunks, whatever the replies
+
+seen-see : (o : Observed) (a : Access) → see o a .sofar ≡ seen (o .sofar) a
+unfolding see
+seen-see o (access.Read off v) = refl
+seen-see o (access.Write off v) = refl
+
+pub seen-all : (early whole : List Chunk) (d : Driver) (l : List Access) (o : Observed) → o .sofar ≡ view early d → Good whole d → Follows (stateOf d) l → sees o l .sofar ≡ view early (driven d l)
+unfolding sees
+seen-all early whole d [] o e g f = e
+seen-all early whole d (a ∷ l) o e g f =
+    seen-all early whole (driverAfter d (valueWord a)) l (see o a) (seen-see o a ∙ ap (λ (z : Seen). seen z a) e ∙ watch early whole d a g (f .0)) (good-next whole d (valueWord a) g) (follows-on d a l f)
+
+-- ---- the whole run against the device
+
+silent-up : {d e : Device} → Silent d e → upOf e ≡ upOf d
+silent-up (out v h) = refl
+silent-up (unasked h) = refl
+silent-up (idle h) = refl
+
+module _ (early : List Chunk) (old : Array) where
+  same-rest : {t u : Seen} {h : Bool} {q : Option Chunk} → t ≡ u → showing t h q ≡ showing u h q
+  same-rest {h = h} {q = q} e = ap (λ (z : Seen). showing z h q) e
+
+  step-shows : (whole : List Chunk) {s : Driver} {d : Device} {a : Access} → Good whole s → OnDevice early old s d → Matches (want (stateOf s)) a
+      → see (showing (view early s) (upOf d) (doubtNow s)) a ≡ showing (view early (driverAfter s (valueWord a))) (upOf (effect d a)) (doubtNow (driverAfter s (valueWord a)))
+  step-shows whole {a = a} g (during {s} {p} {taken} {c} {l} {k} {f} y (held z)) m = edge early whole (Known s f) s c l k f g z m ∙ same-rest (watch early whole (at s p taken c l k) a g m)
+
+  pub along : (whole : List Chunk) {d e : Device} {l : List Access} (s : Driver) → Good whole s → OnDevice early old s d → Follows (stateOf s) l → Trace AllOut d l e
+      → OnDevice early old (driven s l) e × (sees (showing (view early s) (upOf d) (doubtNow s)) l ≡ showing (view early (driven s l)) (upOf e) (doubtNow (driven s l)))
+  unfolding sees
+  along whole s g y f still = (y, refl)
+  along whole s g y f (quiet {l = l} z t) =
+      let r = along whole s g (silent early old y z) f t in
+      (r .0, ap (λ (h : Bool). sees (showing (view early s) h (doubtNow s)) l) (sym (silent-up z)) ∙ r .1)
+  along whole s g y f (step {a = a} {l = l} i o t) =
+      let r = along whole (driverAfter s (valueWord a)) (good-next whole s (valueWord a) g) (advance early old whole g y (f .0) i o) (follows-on s a l f) t in
+      (r .0, ap (λ (x : Observed). sees x l) (step-shows whole g y (f .0)) ∙ r .1)
+
+-- ---- the claim at a state
+
+calm-cut : {m : Array} (new : Array) {f : Flash} → Calm m f → AfterCut f new → (x : ℕ) → new x ≡ m x
+unfolding AfterCut
+calm-cut new calm h x = h x
+
+ready-cut : {m : Array} (new : Array) {f : Flash} → Ready m f → AfterCut f new → (x : ℕ) → new x ≡ m x
+unfolding AfterCut
+ready-cut new ready h x = h x
+
+works-cut : {m : Array} (new : Array) {c : Chunk} {f : Flash} → Works m c f → AfterCut f new → (x : ℕ) → lands c x ≡ none → new x ≡ m x
+unfolding AfterCut
+works-cut new under h x e = h x e
+works-cut {m} new {c} past h x e = h x ∙ spared c m x e
+
+-- x is no byte of the chunk in doubt
+abbrev Clear : Option Chunk → ℕ → Type 0
+Clear none x = Unit {0}
+Clear (some c) x = lands c x ≡ none
+
+stage-cut : (s : Stage) (b : Bool) (m new : Array) (c : Chunk) (f : Flash) → FlashAt s b m c f → AfterCut f new → (x : ℕ) → Clear (doubtAt s b c) x → new x ≡ m x
+stage-cut enables false m new c f y h x e = calm-cut new y h x
+stage-cut enables true m new c f y h x e = ready-cut new y h x
+stage-cut programs false m new c f y h x e = ready-cut new y h x
+stage-cut programs true m new c f y h x e = works-cut new y h x e
+stage-cut polls b m new c f y h x e = works-cut new y h x e
+stage-cut clears b m new c f y h x e = absurd y
+stage-cut disables b m new c f y h x e = absurd y
+
+the-one : {c : Chunk} {l : List Chunk} → Fit c → NextOnly (some c) (c ∷ l)
+the-one f = the-next (f .sound .small) (f .in-page)
+
+next-only : (s : Stage) (b : Bool) (c : Chunk) (l : List Chunk) → Fit c → NextOnly (doubtAt s b c) (c ∷ l)
+next-only enables b c l f = no-doubt
+next-only programs false c l f = no-doubt
+next-only programs true c l f = the-one f
+next-only polls b c l f = the-one f
+next-only clears b c l f = the-one f
+next-only disables b c l f = the-one f
+
+-- the chunk in doubt is the next: it holds no byte of a finished one, and none outside it
+clear-done : (q : Option Chunk) (k : List Chunk) (c : Chunk) (l : List Chunk) {b : Chunk} (i : ℕ) → Fit c → NextOnly q (c ∷ l) → Ordered (k ++ c ∷ l) → Among b k → i < length (b .bytes) → Clear q (b .address + i)
+clear-done none k c l i f n o m h = tt
+clear-done (some d) k c l {b} i f (the-next x y) o m h = lands-out c (b .address + i) f (inl (omega (arith, ordered-seam k c l o m)))
+
+clear-out : (q : Option Chunk) (c : Chunk) (l : List Chunk) (x : ℕ) → Fit c → NextOnly q (c ∷ l) → ((d : Chunk) → q ≡ some d → In x d → ⊥) → Clear q x
+clear-out none c l x f n h = tt
+clear-out (some d) c l x f (the-next y z) h = lands-out c x f (beside x (c .address) (length (c .bytes)) (h c refl))
+
+module _ (a : ℕ) (bs : List ℕ) (old new : Array) where
+  kept-going : (s : Stage) (p : Phase) (taken : List ℕ) (c : Chunk) (l k : List Chunk) (h : Bool) (f : Flash) → Going (chunks a bs) s p taken c l k → FlashAt s (isLast p) (applied k old) c f → AfterCut f new
+      → Kept a bs old (showing (view [] (at s p taken c l k)) h (doubtNow (at s p taken c l k))) new
+  kept-going s p taken c l k h f g y z =
+      let o : Ordered (k ++ c ∷ l) = rw (g .parts) (chunks-ordered a bs) in
+      let w = next-only s (isLast p) c l (g .fits) in
+      record {
+        left = c ∷ l;
+        first = g .parts;
+        next = w;
+        written = λ b m i e. stage-cut s (isLast p) (applied k old) new c f y z (b .address + i) (clear-done (doubtAt s (isLast p) c) k c l i (g .fits) w o m e) ∙ applied-in k old i (g .past) (ordered-front k (c ∷ l) o) m e;
+        same = λ x m e. stage-cut s (isLast p) (applied k old) new c f y z x (clear-out (doubtAt s (isLast p) c) c l x (g .fits) w e) ∙ applied-out k old x (g .past) m;
+      }
+
+  kept-rest : (k l : List Chunk) (q : Option Chunk) (h : Bool) {f : Flash} → k ++ l ≡ chunks a bs → AllFit k → Calm (applied k old) f → AfterCut f new → Kept a bs old (showing (record { transfer = closed; programs = q; finished = k }) h none) new
+  kept-rest k l q h e i y z =
+      let o : Ordered (k ++ l) = rw e (chunks-ordered a bs) in
+      record {
+        left = l;
+        first = e;
+        next = no-doubt;
+        written = λ b m j e₁. calm-cut new y z (b .address + j) ∙ applied-in k old j i (ordered-front k l o) m e₁;
+        same = λ x m e₁. calm-cut new y z x ∙ applied-out k old x i m;
+      }
+
+  kept : {s : Driver} {e : Device} → Good (chunks a bs) s → OnDevice [] old s e → AfterCut (flashOf e) new → Kept a bs old (showing (view [] s) (upOf e) (doubtNow s)) new
+  kept g (during {s} {p} {taken} {c} {l} {k} {f} y (held {c = v} w)) z = kept-going s p taken c l k (high v) f g y z
+  kept g (on.ended {a = succeeded} {l} {k} {c} nf u y) z = kept-rest k l none (high c) (g .0 .parts) (g .0 .past) y z
+  kept g (on.ended {a = failed} {l} {k} {c} nf u y) z = absurd nf
+  kept g (on.ended {a = refuses b} {l} {k} {c} nf u y) z = kept-rest k l none (high c) (g .0 .parts) (g .0 .past) y z
+
+-- ---- the start, and the whole
+
+start-shows : (a : ℕ) (bs : List ℕ) → (view [] (driverStart a bs) ≡ fresh .sofar) × (doubtNow (driverStart a bs) ≡ none)
+unfolding driverStart
+start-shows a bs = go (ltb 16777215 (a + length bs))
+  where
+    go : (b : Bool) → (view [] (cond b (over (refuses OutOfRange) (chunks a bs) []) (startNext (chunks a bs) [])) ≡ fresh .sofar) × (doubtNow (cond b (over (refuses OutOfRange) (chunks a bs) []) (startNext (chunks a bs) [])) ≡ none)
+    go true = (refl, refl)
+    go false = (view-start [] (chunks a bs) [], start-doubt (chunks a bs) [])
+
+start-device : (a : ℕ) (bs : List ℕ) (old : Array) {c : ℕ} {w r : List ℕ} {latch : Bool} → Up c → OnDevice [] old (driverStart a bs) (device c [] [] w r (flash old latch none))
+unfolding driverStart applied
+start-device a bs old {c} {w} {r} {latch} u = go (ltb 16777215 (a + length bs))
+  where
+    go : (b : Bool) → OnDevice [] old (cond b (over (refuses OutOfRange) (chunks a bs) []) (startNext (chunks a bs) [])) (device c [] [] w r (flash old latch none))
+    go true = on.ended tt u calm
+    go false = begins [] old (chunks a bs) [] u calm
+
+both-set : {a b : Bool} → a ≡ true → b ≡ true → (a && b) ≡ true
+both-set e f = rw (e, f)
+
+cut-at : (a : ℕ) (bs : List ℕ) → AllBytes bs → (l : List Access) → Follows (stateOf (driverStart a bs)) l → {d e : Device} (old new : Array) → Rests old d → Trace AllOut d l e → AfterCut (flashOf e) new → Kept a bs old (observed l) new
+unfolding observed
+cut-at a bs h l f {d} {e} old new (rests {c} {w} {r} {latch} u₁₀ u₁₄ u₁₅ u₁₆) t z =
+    let u : Up c = record { up = u₁₀; unstarted = u₁₆; by-hand = both-set u₁₄ u₁₅ } in
+    let o = along [] old (chunks a bs) (driverStart a bs) (good-driver a bs h) (start-device a bs old u) f t in
+    let k = kept a bs old new (good-driven (chunks a bs) (driverStart a bs) l (good-driver a bs h)) (o .0) z in
+    let v = start-shows a bs in
+    let q₀ : fresh ≡ showing (view [] (driverStart a bs)) (high c) (doubtNow (driverStart a bs)) = rw (v .0, v .1, u₁₀) in
+    let q : sees fresh l ≡ showing (view [] (driven (driverStart a bs) l)) (upOf e) (doubtNow (driven (driverStart a bs) l)) = ap (λ (x : Observed). sees x l) q₀ ∙ o .1 in
+    rw q k
+
+done-of : (d : Driver) → countIn (stateOf d) ≡ total (view [] d .finished)
+done-of (at s p taken c l k) = refl
+done-of (over a l k) = refl
+
+whole-done : (whole : List Chunk) (d : Driver) → Good whole d → statusIn (stateOf d) ≡ Done → countIn (stateOf d) ≡ total whole
+whole-done whole (at s p taken c l k) g e = let y : _≡_ {A = ℕ} 0 1 = cc in absurd (omega (arith, y))
+whole-done whole (over succeeded l k) g e = ap total (sym (append-nil k) ∙ ap (λ (z : List Chunk). k ++ z) (sym (g .1)) ∙ g .0 .parts)
+whole-done whole (over failed l k) g e = let y : _≡_ {A = ℕ} 0 1 = cc in absurd (omega (arith, y))
+whole-done whole (over (refuses b) l k) g e = absurd (g .1 e)
+
+-- the statement of a result
+abbrev pub PowerCutOf : ℕ → List ℕ → Result → Type 0
+PowerCutOf a bs r = PowerCut a bs (r .log) (r .answer) (countIn (r .state))
+
+pub power-cut : (a : ℕ) (bs : List ℕ) → AllBytes bs → (room : ℕ) (replies : List ℕ) → PowerCutOf a bs (called (writePages a bs) room replies)
+unfolding observed
+power-cut a bs h room rs = rw (start-is a bs) claim
+  where
+    d : Driver
+    d = driverStart a bs
+    r : Result
+    r = runs room (stateOf d) rs
+    m : Made (stateOf d) r
+    m = makes room (stateOf d) rs
+    g : Good (chunks a bs) d
+    g = good-driver a bs h
+    ends-in : r .state ≡ stateOf (driven d (r .log))
+    ends-in = m .ends ∙ driven-is d (r .log)
+    shown : sees fresh (r .log) .sofar ≡ view [] (driven d (r .log))
+    shown = seen-all [] (chunks a bs) d (r .log) fresh (sym (start-shows a bs .0)) g (m .follows)
+    claim : PowerCutOf a bs r
+    claim = record {
+      cut = λ k i before after₁ old new y t z. cut-at a bs h (take k (r .log)) (follows-take k (stateOf d) (r .log) (m .follows)) old new y t z;
+      counted = ap countIn ends-in ∙ done-of (driven d (r .log)) ∙ ap (λ (s : Seen). total (s .finished)) (sym shown);
+      whole = λ e. ap countIn ends-in ∙ whole-done (chunks a bs) (driven d (r .log)) (good-driven (chunks a bs) d (r .log) g) (ap statusIn (sym (driven-is d (r .log))) ∙ m .answers e) ∙ chunks-total a bs;
+    }

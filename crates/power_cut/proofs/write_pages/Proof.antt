@@ -1,0 +1,59 @@
+-- The start is tied to its script, so its run is the script's. Assumes nothing.
+use denote.Ref.{now}
+use native.Mathlib.Omega.{arith}
+use Rattle.power_cut.proofs.Promised as promise
+use borrow.Author.Needs.{needs}
+use Rattle.power_cut.proofs.write_pages.Statement.{statement}
+use Rattle.power_cut.proofs.write_pages.Tie as tie
+use Rattle.power_cut.proofs.write_pages.Reads as reads
+use Rattle.power_cut.proofs.write_pages.Lts as lts
+use Rattle.qspi_calls.proofs.start.write_pages.Reads as write-pages-reads
+use Rattle.qspi_operation.proofs.programmed.Reads as programmed-reads
+use Rattle.qspi_operation.proofs.run.Reads as run-reads
+use Rattle.qspi_runs.proofs.finish.Reads as finish-reads
+
+-- src/lib.rt:23:9
+write-pages-requires : tie.Need-write-pages-requires
+write-pages-requires c κs = search needs
+
+-- src/lib.rt:25:43
+slice-aggregate-run : tie.Need-slice-aggregate-run
+slice-aggregate-run c = search needs
+
+-- src/lib.rt:25:9
+run-requires : tie.Need-run-requires
+run-requires c κs = search needs
+
+-- src/lib.rt:26:9
+programmed-requires : tie.Need-programmed-requires
+programmed-requires c κs = search needs
+
+-- src/lib.rt:27:9
+finish-requires : tie.Need-finish-requires
+finish-requires c κs = search needs
+
+-- src/lib.rt:18:1
+same-length : tie.Need-same-length
+same-length c = search needs
+
+-- src/lib.rt:18:1
+returns : tie.Need-returns
+returns c =
+    let w = c .before .before .before .before .before .before .before .before .before .before .before in
+    let n = c .before .before .before .before .before .run .ensures in
+    let p =
+          promise.promised (w .before .args .addr) (now (w .before .args .«data»)) (now (w .before .args .replies)) (now (w .before .args .log)) (omega (arith, w .before .good)) (λ i. omega (arith, w .shared-slice-known .given i))
+          (c .before .before .before .before .before .before .before .before .write-pages .ensures) (record { op = n .op; answer = n .answer; logged = n .logged }) (c .before .programmed .ensures) (c .finish .ensures) in
+    (p .ran, (p .counted, (p .logged, p .cut)))
+
+pub write-pages-spec : {M : Type 1} → statement M
+write-pages-spec =
+    tie.close
+    (tie.spec
+    write-pages-requires
+    slice-aggregate-run
+    run-requires
+    programmed-requires
+    finish-requires
+    same-length
+    returns)

@@ -1,0 +1,6 @@
+pub mod Flash
+pub mod Controller
+pub mod Observer
+pub mod Statement
+pub mod Promise
+pub mod Witness

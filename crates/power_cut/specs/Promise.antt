@@ -1,0 +1,15 @@
+-- The power-cut statement of what the code hands back: the answer, and the log as it lies in memory.
+use Prim.Native.Nat.{ℕ}
+use mathlib.Core.Path.{_≡_}
+use mathlib.Core.List.{List}
+use lib.ListN.{take}
+use Rattle.zynq7000.specs.Access.{encode}
+use Rattle.zynq7000.specs.declared.qspi.Access.{Access}
+use Rattle.power_cut.specs.Statement.{PowerCut}
+use Rattle.power_cut.specs.declared.PagesRan.{PagesRan}
+
+-- the used words of the log are these accesses, and the statement holds of them, of the answer and of its count
+pub record Saved (a : ℕ) (bs : List ℕ) (r : PagesRan) (log : List ℕ) : Type 0 where
+  pub accesses : List Access
+  pub is-log : take (r .ran .used) log ≡ encode accesses
+  pub claim : PowerCut a bs accesses (r .ran .answer) (r .programmed)
