@@ -3,8 +3,9 @@ use mathlib.Core.Path.{_≡_, refl}
 use mathlib.Core.Bool.{true, false}
 use mathlib.Core.List.{List, [], _∷_}
 use native.Mathlib.Omega.{arith}
+use Rattle.zynq7000.specs.Access.{Loggable}
 use Rattle.zynq7000.specs.declared.qspi.Access.the-variants.{Read, Write}
-use Rattle.access_log.specs.Log.{entryIn, Loggable, bytesOf}
+use Rattle.access_log.specs.Log.{entryIn, bytesOf}
 use Rattle.access_log.specs.Text.{lineOf, decimalUpTo, badLine, allAccesses}
 
 -- `W 00 8008C0C1`

@@ -4,12 +4,12 @@ use mathlib.Core.Path.{_≡_, refl, ap, _∙_}
 use mathlib.Core.List.{List, [], _∷_, _++_}
 use lib.ListN.{length, getD, length-append}
 use native.Mathlib.Omega.{arith}
-use Rattle.zynq7000.specs.Access.{offsetIn, firstWord, valueWord, encode, recordOf, Aligned}
+use Rattle.zynq7000.specs.Access.{offsetIn, firstWord, valueWord, encode, recordOf, Aligned, Loggable}
 use Rattle.zynq7000.proofs.AccessLaws.{read-words}
 use Rattle.zynq7000.specs.declared.qspi.Access.{Access}
 use Rattle.zynq7000.specs.declared.qspi.Record.{Record}
 use Rattle.access_log.specs.declared.Entry.the-variants as entry
-use Rattle.access_log.specs.Log.{entryOf, entryAt, Loggable}
+use Rattle.access_log.specs.Log.{entryOf, entryAt}
 use Rattle.access_log.proofs.Places.{at-whole, at-end}
 
 encode-length : (l : List Access) → length (encode l) ≡ length l * 2

@@ -5,7 +5,7 @@ use mathlib.Core.Bool.{cond}
 use mathlib.Core.List.{List, [], _∷_}
 use lib.Dec.{eqb, leb, ltb}
 use lib.ListN.{length, getD}
-use Rattle.zynq7000.specs.Access.{offsetIn, firstWord, valueWord, recordOf, Aligned}
+use Rattle.zynq7000.specs.Access.{firstWord, valueWord, recordOf}
 use Rattle.zynq7000.specs.Number.{Answer, Refusal, accepted, refusedWith}
 use Rattle.zynq7000.specs.declared.qspi.Access.{Access}
 use Rattle.zynq7000.specs.declared.qspi.Record.{Record}
@@ -59,11 +59,6 @@ answerAt log at = placedAnswer 2 (length log) at (recordAnswer (getD log (at * 2
 
 unfoldable pub answerIn : List ℕ → ℕ → Answer
 answerIn bytes at = placedAnswer 8 (length bytes) at (recordAnswer (wordAt bytes (at * 8)) (wordAt bytes (at * 8 + 4)) at)
-
--- accesses whose offsets a log can hold
-abbrev pub Loggable : List Access → Type 0
-Loggable [] = Unit {0}
-Loggable (a ∷ l) = Aligned (offsetIn a) × Loggable l
 
 -- the little-endian bytes of words
 unfoldable pub bytesOf : List ℕ → List ℕ

@@ -115,7 +115,7 @@ same-level {s} {h} i = ap (showing s h) i
 module _ (early whole : List Chunk) (P : ℕ → Type 0) (s : Stage) (c : Chunk) (l k : List Chunk) (f : Flash) where
   pub edge : {p : Phase} {taken : List ℕ} {g : ℕ} {t u : List (List ℕ)} {w r : List ℕ} {a : Access} → Going whole s p taken c l k → Ctl P (width s) (transferOf s c) p taken g t u w r → Matches (wantAt (midway p) (action (transferOf s c) p)) a
       → see (showing (view early (at s p taken c l k)) (high g) (doubtAt s (isLast p) c)) a
-        ≡ showing (seen (view early (at s p taken c l k)) a) (upOf (effect (device g t u w r f) a)) (doubtNow (driverAfter (at s p taken c l k) (valueWord a)))
+      ≡ showing (seen (view early (at s p taken c l k)) a) (upOf (effect (device g t u w r f) a)) (doubtNow (driverAfter (at s p taken c l k) (valueWord a)))
   unfolding see seen doubtAfter doubtEnable effect afterRead afterWrite registerAt driverAfter phaseAfter
   edge q (c-drain u) (m-read {v = v}) = same-level (keeps s c (cond (waits v) dropping opening) (last-or (waits v) dropping opening refl refl))
   edge q (c-drop u) m-read = refl

@@ -282,7 +282,7 @@ driverStart a bs = cond (ltb 16777215 (a + length bs)) (over (refuses OutOfRange
 
 start-by : (b₁ b₃ b₄ b₅ : Bool) (c : Chunk) (l k : List Chunk)
     → begin (onward b₁ (refused OutOfRange) (onward b₃ (refused DataTooLarge) (onward b₄ (onward b₅ (refused CrossesPageBoundary) (working 6 ProgrammingErrorBitSet (programming (c .address) (c .bytes)) (rest c l))) (refused NotAligned)))) [] (total k)
-      ≡ stateOf (startOn (judge b₁ b₃ b₄ b₅) c l k)
+    ≡ stateOf (startOn (judge b₁ b₃ b₄ b₅) c l k)
 start-by true b₃ b₄ b₅ c l k = refl
 start-by false true b₄ b₅ c l k = refl
 start-by false false false b₅ c l k = refl

@@ -56,9 +56,10 @@ sound-in : (n a : ℕ) (bs : List ℕ) → AllBytes bs → AllSound (chunksIn n 
 unfolding chunksIn
 sound-in zero a bs h = tt
 sound-in (suc n) a [] h = tt
-sound-in (suc n) a (b ∷ bs) h =
-    (record { octets = bytes-take 128 (b ∷ bs) h; some-byte = omega (arith, length-take 128 (b ∷ bs)); small = omega (arith, length-take 128 (b ∷ bs)) }
-    , sound-in n (a + 128) (drop 128 (b ∷ bs)) (bytes-drop 128 (b ∷ bs) h))
+sound-in (suc n) a (b ∷ bs) h = (
+  record { octets = bytes-take 128 (b ∷ bs) h; some-byte = omega (arith, length-take 128 (b ∷ bs)); small = omega (arith, length-take 128 (b ∷ bs)) },
+  sound-in n (a + 128) (drop 128 (b ∷ bs)) (bytes-drop 128 (b ∷ bs) h),
+)
 
 pub chunks-sound : (a : ℕ) (bs : List ℕ) → AllBytes bs → AllSound (chunks a bs)
 unfolding chunks

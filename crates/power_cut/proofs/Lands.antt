@@ -125,9 +125,10 @@ in-ordered : (n a : ℕ) (bs : List ℕ) → Ordered (chunksIn n a bs)
 unfolding chunksIn
 in-ordered zero a bs = tt
 in-ordered (suc n) a [] = tt
-in-ordered (suc n) a (b ∷ bs) =
-    (above-less (chunksIn n (a + 128) (drop 128 (b ∷ bs))) (a + length (take 128 (b ∷ bs))) (a + 128) (omega (arith, length-take 128 (b ∷ bs))) (in-above n (a + 128) (a + 128) (drop 128 (b ∷ bs)) (omega arith))
-    , in-ordered n (a + 128) (drop 128 (b ∷ bs)))
+in-ordered (suc n) a (b ∷ bs) = (
+  above-less (chunksIn n (a + 128) (drop 128 (b ∷ bs))) (a + length (take 128 (b ∷ bs))) (a + 128) (omega (arith, length-take 128 (b ∷ bs))) (in-above n (a + 128) (a + 128) (drop 128 (b ∷ bs)) (omega arith)),
+  in-ordered n (a + 128) (drop 128 (b ∷ bs)),
+)
 
 pub chunks-ordered : (a : ℕ) (bs : List ℕ) → Ordered (chunks a bs)
 unfolding chunks

@@ -18,6 +18,7 @@ use Rattle.qspi_script.specs.declared.Status.the-variants.{Done, OutOfRange}
 use Rattle.qspi_calls.specs.Chunks.{Chunk, chunks, Among, here, there}
 use Rattle.qspi_calls.specs.Machine.{Want, reads, writes, nothing, State, want, next, statusIn, Result, noRoom, made, runs, called}
 use Rattle.qspi_calls.specs.Calls.{writePages}
+use Rattle.qspi_calls.specs.Prompt.{repliesOf}
 use Rattle.qspi_calls.proofs.WireOrder.{AllBytes}
 use Rattle.qspi_calls.proofs.Pages.{within}
 use Rattle.power_cut.specs.Flash.{Array, programmed, programming, Flash, flash, busy, commandOf, obey, execute, settles}
@@ -91,7 +92,7 @@ chunks-finish (c ∷ l) k m latch v w r h u =
     let y = chunks-finish l (k ++ c ∷ []) (programmed c m) false (x .config) (x .wire) (x .left) (h .2) (x .up) in
     let e : (k ++ c ∷ []) ++ l ≡ k ++ c ∷ l = append-snoc k c l in
     let z : Leads (stateOf (startNext l (k ++ c ∷ []))) (device (x .config) [] [] (x .wire) (x .left) (flash (programmed c m) false none)) (stateOf (over succeeded [] (k ++ c ∷ l))) (device (y .reached .config) [] [] (y .reached .wire) (y .reached .left) (flash (applied l (programmed c m)) (y .latch) none)) =
-          rw e at (y .reached .leads) in
+    rw e at (y .reached .leads) in
     let start : stateOf (startOn (verdictOn c) c l k) ≡ stateOf (at enables draining [] c l k) = rw (h .1) in
     record { latch = y .latch; reached = record { config = y .reached .config; up = y .reached .up; wire = y .reached .wire; left = y .reached .left; leads = rw start (on (x .leads) z) } }
 
@@ -115,17 +116,12 @@ chunks-accepted a bs h y = all-accepted (chunks a bs) (chunks-sound a bs h) (y .
 
 -- ---- the run over the replies of such a way
 
-abbrev pub repliesIn : List Access → List ℕ
-repliesIn [] = []
-repliesIn (access.Read o v ∷ l) = v ∷ repliesIn l
-repliesIn (access.Write o v ∷ l) = repliesIn l
-
 record Runs (s : State) (l : List Access) (r : Result) : Type 0 where
   log : r .log ≡ l
   answer : r .answer ≡ statusIn (after s l)
 
-more-runs : (w : Want) (s : State) (a : Access) (l : List Access) (n : ℕ) (more : List ℕ) → Matches w a → Runs (next s (valueWord a)) l (runs n (next s (valueWord a)) (repliesIn l ++ more))
-    → Runs s (a ∷ l) (made w s n (repliesIn (a ∷ l) ++ more) (runs n))
+more-runs : (w : Want) (s : State) (a : Access) (l : List Access) (n : ℕ) (more : List ℕ) → Matches w a → Runs (next s (valueWord a)) l (runs n (next s (valueWord a)) (repliesOf l ++ more))
+    → Runs s (a ∷ l) (made w s n (repliesOf (a ∷ l) ++ more) (runs n))
 more-runs (reads o) s (access.Read p v) l n more m-read y = record { log = ap (λ (z : List Access). access.Read o v ∷ z) (y .log); answer = y .answer }
 more-runs (writes o v) s (access.Write p u) l n more m-write y = record { log = ap (λ (z : List Access). access.Write o v ∷ z) (y .log); answer = y .answer }
 
@@ -134,7 +130,7 @@ unfolding runs
 over-runs zero s more e = rw e (record { log = refl; answer = refl })
 over-runs (suc n) s more e = rw e (record { log = refl; answer = refl })
 
-follows-runs : (l : List Access) (s : State) (room : ℕ) (more : List ℕ) → Follows s l → want (after s l) ≡ nothing → length l ≤ room → Runs s l (runs room s (repliesIn l ++ more))
+follows-runs : (l : List Access) (s : State) (room : ℕ) (more : List ℕ) → Follows s l → want (after s l) ≡ nothing → length l ≤ room → Runs s l (runs room s (repliesOf l ++ more))
 unfolding runs
 follows-runs [] s room more f e h = over-runs room s more e
 follows-runs (a ∷ l) s zero more f e h = absurd (omega arith)
@@ -155,10 +151,10 @@ possible a bs h y old before (rests {c} {w} {r} {latch} u₁₀ u₁₄ u₁₅ 
     let l = x .leads .log in
     let done : want (after (stateOf (startNext (chunks a bs) [])) l) ≡ nothing = rw (x .leads .way .ends) in
     let status : statusIn (after (stateOf (startNext (chunks a bs) [])) l) ≡ Done = rw (x .leads .way .ends) in
-    let z : (room : ℕ) (more : List ℕ) → length l ≤ room → Runs (stateOf (startNext (chunks a bs) [])) l (runs room (stateOf (startNext (chunks a bs) [])) (repliesIn l ++ more)) =
-          λ room more i. follows-runs l (stateOf (startNext (chunks a bs) [])) room more (x .leads .way .follows) done i in
+    let z : (room : ℕ) (more : List ℕ) → length l ≤ room → Runs (stateOf (startNext (chunks a bs) [])) l (runs room (stateOf (startNext (chunks a bs) [])) (repliesOf l ++ more)) =
+    λ room more i. follows-runs l (stateOf (startNext (chunks a bs) [])) room more (x .leads .way .follows) done i in
     record {
-      replies = repliesIn l;
+      replies = repliesOf l;
       accesses = length l;
       later = device (x .config) [] [] (x .wire) (x .left) (flash (applied (chunks a bs) old) (f .latch) none);
       trace = λ room more i. rw (start-is a bs, start-accepted a bs (y .in-range), z room more i .log) (x .leads .way .trace);

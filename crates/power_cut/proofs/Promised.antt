@@ -21,6 +21,7 @@ use Rattle.qspi_runs.specs.Promise.{ranOf, loggedOf, handed, Ended}
 use Rattle.qspi_runs.proofs.Promised.{kept-by}
 use Rattle.power_cut.specs.Promise.{Saved}
 use Rattle.power_cut.proofs.Theorem.{power-cut}
+use Rattle.power_cut.proofs.Offsets.{run-loggable}
 
 -- what is lent as bytes is bytes
 all-bytes : (bs : List ℕ) → ((i : ℕ) → getD bs i 0 < 256) → AllBytes bs
@@ -42,6 +43,7 @@ module _ (a : ℕ) (bytes rs log : List ℕ) where
   saved h = record {
     accesses = result .log;
     is-log = take-at (encode (result .log)) (drop (2 * length (result .log)) log) (2 * length (result .log)) (length-encode (result .log));
+    to-registers = run-loggable a bytes (length log / 2) rs;
     claim = power-cut a bytes h (length log / 2) rs;
   }
 

@@ -263,16 +263,22 @@ power-cut a bs h room rs = rw (start-is a bs) claim
   where
     d : Driver
     d = driverStart a bs
+
     r : Result
     r = runs room (stateOf d) rs
+
     m : Made (stateOf d) r
     m = makes room (stateOf d) rs
+
     g : Good (chunks a bs) d
     g = good-driver a bs h
+
     ends-in : r .state ≡ stateOf (driven d (r .log))
     ends-in = m .ends ∙ driven-is d (r .log)
+
     shown : sees fresh (r .log) .sofar ≡ view [] (driven d (r .log))
     shown = seen-all [] (chunks a bs) d (r .log) fresh (sym (start-shows a bs .0)) g (m .follows)
+
     claim : PowerCutOf a bs r
     claim = record {
       cut = λ k i before after₁ old new y t z. cut-at a bs h (take k (r .log)) (follows-take k (stateOf d) (r .log) (m .follows)) old new y t z;

@@ -100,7 +100,7 @@ module _ (width : ℕ) (x : Transfer) (k : List ℕ → Script) (n : ℕ) (f : F
   opens c w u =
       let lowered : effect (device c [] [] w [] f) (access.Write 0x00 (chipSelectLow c)) ≡ device (clear 16 (chipSelectLow c)) [] [] [] [] f = rw (u .up, high-clear c, starts-low c, u .unstarted) in
       let lower : Leads (here (lowering c) []) (device c [] [] w [] f) (here switching []) (device (clear 16 (chipSelectLow c)) [] [] [] [] f) =
-            rw (← lowered) (by (access.Write 0x00 (chipSelectLow c)) m-write tt (λ e h. refl) refl) in
+      rw (← lowered) (by (access.Write 0x00 (chipSelectLow c)) m-write tt (λ e h. refl) refl) in
       on {t = here (lowering c) []} (by (access.Read 0x00 c) m-read refl tt refl)
       (on {t = here switching []} lower (by (access.Write 0x14 1) m-write tt tt refl))
 
@@ -123,7 +123,7 @@ module _ (width : ℕ) (x : Transfer) (k : List ℕ → Script) (n : ℕ) (f : F
       let begun : effect (device c [] (map (bytesOut width) (words x)) [] [] f) (access.Write 0x00 (started c)) ≡ device (clear 16 (started c)) (map (bytesOut width) (words x)) [] [] [] f = rw (high-start c, d .down, starts-put c) in
       let low : high (started c) ≡ true → map (bytesOut width) (words x) ≡ [] = λ h. absurd (true≢false (sym h ∙ high-start c ∙ d .down)) in
       let begin-it : Leads (here (releasing c) []) (device c [] (map (bytesOut width) (words x)) [] [] f) (here (takeNext (x .replies)) []) (device (clear 16 (started c)) (map (bytesOut width) (words x)) [] [] [] f) =
-            rw (← begun) (by (access.Write 0x00 (started c)) m-write tt (λ e h. low h) (transfer-next x k n (releasing c) [] (started c) refl)) in
+      rw (← begun) (by (access.Write 0x00 (started c)) m-write tt (λ e h. low h) (transfer-next x k n (releasing c) [] (started c) refl)) in
       on {t = here (releasing c) []} (by (access.Read 0x00 c) m-read refl tt refl) begin-it
 
   goes-out : {s t : State} {g : Device} (c : ℕ) (ws : List (List ℕ)) (w : List ℕ) (m : ℕ) → Leads s (device c [] [] (w ++ join ws) (zeros (m + length ws)) f) t g → Leads s (device c ws [] w (zeros m) f) t g
@@ -164,7 +164,7 @@ module _ (width : ℕ) (x : Transfer) (k : List ℕ → Script) (n : ℕ) (f : F
   closes c w r taken d =
       let raised : effect (device c [] [] w r f) (access.Write 0x00 (chipSelectHigh c)) ≡ device (clear 16 (chipSelectHigh c)) [] [] [] r (execute f w) = rw (d .down, high-put c, starts-high c, d .unstarted) in
       let raise : Leads (here (raising c) taken) (device c [] [] w r f) (here leaving taken) (device (clear 16 (chipSelectHigh c)) [] [] [] r (execute f w)) =
-            rw (← raised) (by (access.Write 0x00 (chipSelectHigh c)) m-write tt (λ e h. refl) refl) in
+      rw (← raised) (by (access.Write 0x00 (chipSelectHigh c)) m-write tt (λ e h. refl) refl) in
       on {t = here (raising c) taken} (by (access.Read 0x00 c) m-read refl tt refl)
       (on {t = here leaving taken} raise (by (access.Write 0x14 0) m-write tt tt refl))
 
@@ -185,9 +185,9 @@ module _ (width : ℕ) (x : Transfer) (k : List ℕ → Script) (n : ℕ) (f : F
       let e : 0 + length (map (bytesOut width) (words x)) ≡ x .replies + m = omega (arith, length-map (words x) (bytesOut width)) in
       let z : zeros (x .replies) ++ [] ≡ zeros (x .replies) = append-nil (zeros (x .replies)) in
       let y : Leads (here (takeNext (x .replies)) []) (device c₂ [] [] (flat width (words x)) (zeros (x .replies + m)) f) (begin (k (reverse (zeros (x .replies)))) [] n) (device (clear 16 (chipSelectHigh c₂)) [] [] [] (zeros m) (execute f (flat width (words x)))) =
-            on (rw z at (takes c₂ (flat width (words x)) (x .replies) m [])) (closes c₂ (flat width (words x)) (zeros m) (zeros (x .replies)) d₂) in
+      on (rw z at (takes c₂ (flat width (words x)) (x .replies) m [])) (closes c₂ (flat width (words x)) (zeros m) (zeros (x .replies)) d₂) in
       let y′ : Leads (here (takeNext (x .replies)) []) (device c₂ (map (bytesOut width) (words x)) [] [] [] f) (begin (k (reverse (zeros (x .replies)))) [] n) (device (clear 16 (chipSelectHigh c₂)) [] [] [] (zeros m) (execute f (flat width (words x)))) =
-            goes-out c₂ (map (bytesOut width) (words x)) [] 0 (rw (e, join-map width (words x)) y) in
+      goes-out c₂ (map (bytesOut width) (words x)) [] 0 (rw (e, join-map width (words x)) y) in
       record {
         config = clear 16 (chipSelectHigh c₂);
         up = up-high c₂ d₂;

@@ -27,8 +27,8 @@ at-rest = device 0x8008C4C1 [] [] [] [] (flash blank false none)
 
 abbrev unenabled : Result
 unenabled = called (exchange (programming 0x000100 line) (λ rs. settling 6 ProgrammingErrorBitSet (counts 4 (ends Done [])))) 28
-  (0x00 ∷ 0x8008C4C1 ∷ 0x8008C0C1 ∷ 0x10 ∷ 0x10 ∷ 0x00 ∷ 0x8008C0C1 ∷
-  0x10 ∷ 0x00 ∷ 0x00 ∷ 0x8008C4C1 ∷ 0x8008C0C1 ∷ 0x10 ∷ 0x00 ∷ 0x8008C0C1 ∷ [])
+    (0x00 ∷ 0x8008C4C1 ∷ 0x8008C0C1 ∷ 0x10 ∷ 0x10 ∷ 0x00 ∷ 0x8008C0C1 ∷
+    0x10 ∷ 0x00 ∷ 0x00 ∷ 0x8008C4C1 ∷ 0x8008C0C1 ∷ 0x10 ∷ 0x00 ∷ 0x8008C0C1 ∷ [])
 
 unenabled-trace : Trace AllOut at-rest (unenabled .log) (device 0x8008C4C1 [] [] [] [] (flash blank false none))
 unfolding runs effect afterRead afterWrite configured registerAt bytesOut execute obey commandOf programOf eraseOf Gives GivenBy AllOut isStatusRead
@@ -93,9 +93,9 @@ crossing = record { address = 0x0000FC; bytes = eight }
 
 abbrev unchecked : Result
 unchecked = called (working 6 ProgrammingErrorBitSet (programming 0x0000FC eight) (counts 8 (ends Done []))) 44
-  (0x00 ∷ 0x8008C4C1 ∷ 0x8008C0C1 ∷ 0x10 ∷ 0x00 ∷ 0x8008C0C1 ∷
-  0x00 ∷ 0x8008C4C1 ∷ 0x8008C0C1 ∷ 0x10 ∷ 0x10 ∷ 0x00 ∷ 0x10 ∷ 0x10 ∷ 0x00 ∷ 0x8008C0C1 ∷
-  0x10 ∷ 0x00 ∷ 0x00 ∷ 0x8008C4C1 ∷ 0x8008C0C1 ∷ 0x10 ∷ 0x00 ∷ 0x8008C0C1 ∷ [])
+    (0x00 ∷ 0x8008C4C1 ∷ 0x8008C0C1 ∷ 0x10 ∷ 0x00 ∷ 0x8008C0C1 ∷
+    0x00 ∷ 0x8008C4C1 ∷ 0x8008C0C1 ∷ 0x10 ∷ 0x10 ∷ 0x00 ∷ 0x10 ∷ 0x10 ∷ 0x00 ∷ 0x8008C0C1 ∷
+    0x10 ∷ 0x00 ∷ 0x00 ∷ 0x8008C4C1 ∷ 0x8008C0C1 ∷ 0x10 ∷ 0x00 ∷ 0x8008C0C1 ∷ [])
 
 abbrev wrapped : Device
 wrapped = device 0x8008C4C1 [] [] [] [] (flash (programmed crossing blank) false none)
@@ -177,9 +177,9 @@ no-page-check p = unchecked-kept (p .cut 44 (omega arith) at-rest wrapped blank 
 
 abbrev hasty : Result
 hasty = called (exchange enabling (λ rs. exchange (programming 0x000100 line) (λ rs. exchange statusReading (λ rs. counts 4 (ends Done []))))) 40
-  (0x00 ∷ 0x8008C4C1 ∷ 0x8008C0C1 ∷ 0x10 ∷ 0x00 ∷ 0x8008C0C1 ∷
-  0x00 ∷ 0x8008C4C1 ∷ 0x8008C0C1 ∷ 0x10 ∷ 0x10 ∷ 0x00 ∷ 0x8008C0C1 ∷
-  0x10 ∷ 0x00 ∷ 0x00 ∷ 0x8008C4C1 ∷ 0x8008C0C1 ∷ 0x10 ∷ 0x01000000 ∷ 0x8008C0C1 ∷ [])
+    (0x00 ∷ 0x8008C4C1 ∷ 0x8008C0C1 ∷ 0x10 ∷ 0x00 ∷ 0x8008C0C1 ∷
+    0x00 ∷ 0x8008C4C1 ∷ 0x8008C0C1 ∷ 0x10 ∷ 0x10 ∷ 0x00 ∷ 0x8008C0C1 ∷
+    0x10 ∷ 0x00 ∷ 0x00 ∷ 0x8008C4C1 ∷ 0x8008C0C1 ∷ 0x10 ∷ 0x01000000 ∷ 0x8008C0C1 ∷ [])
 
 pub busy-taken-for-done : PowerCutOf 0x000100 line hasty → ⊥
 unfolding runs observed sees see seen seenRead seenWrite enableWritten closing isClean isStatusRead raised doubtEnable doubtAfter registerAt bytesOut commandOf programOf eraseOf total
@@ -187,8 +187,8 @@ busy-taken-for-done p = let e : _≡_ {A = ℕ} 4 0 = p .counted in omega (arith
 
 abbrev counted-early : Result
 counted-early = called (exchange enabling (λ rs. exchange (programming 0x000100 line) (λ rs. counts 4 (settling 6 ProgrammingErrorBitSet (ends Done []))))) 26
-  (0x00 ∷ 0x8008C4C1 ∷ 0x8008C0C1 ∷ 0x10 ∷ 0x00 ∷ 0x8008C0C1 ∷
-  0x00 ∷ 0x8008C4C1 ∷ 0x8008C0C1 ∷ 0x10 ∷ 0x10 ∷ 0x00 ∷ 0x8008C0C1 ∷ [])
+    (0x00 ∷ 0x8008C4C1 ∷ 0x8008C0C1 ∷ 0x10 ∷ 0x00 ∷ 0x8008C0C1 ∷
+    0x00 ∷ 0x8008C4C1 ∷ 0x8008C0C1 ∷ 0x10 ∷ 0x10 ∷ 0x00 ∷ 0x8008C0C1 ∷ [])
 
 pub counted-before-clean : PowerCutOf 0x000100 line counted-early → ⊥
 unfolding runs observed sees see seen seenRead seenWrite enableWritten closing isClean isStatusRead raised doubtEnable doubtAfter registerAt bytesOut commandOf programOf eraseOf total

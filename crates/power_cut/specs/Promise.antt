@@ -3,13 +3,15 @@ use Prim.Native.Nat.{ℕ}
 use mathlib.Core.Path.{_≡_}
 use mathlib.Core.List.{List}
 use lib.ListN.{take}
-use Rattle.zynq7000.specs.Access.{encode}
+use Rattle.zynq7000.specs.Access.{encode, Loggable}
 use Rattle.zynq7000.specs.declared.qspi.Access.{Access}
 use Rattle.power_cut.specs.Statement.{PowerCut}
 use Rattle.power_cut.specs.declared.PagesRan.{PagesRan}
 
--- the used words of the log are these accesses, and the statement holds of them, of the answer and of its count
+-- the used words of the log are these accesses, each to a register's offset (so there are no others of which they are the words:
+-- `one-log` in proofs/Offsets), and the statement holds of them, of the answer and of its count
 pub record Saved (a : ℕ) (bs : List ℕ) (r : PagesRan) (log : List ℕ) : Type 0 where
   pub accesses : List Access
   pub is-log : take (r .ran .used) log ≡ encode accesses
+  pub to-registers : Loggable accesses
   pub claim : PowerCut a bs accesses (r .ran .answer) (r .programmed)

@@ -2,9 +2,9 @@
 use mathlib.Core.Path.{_≡_, refl, ap, _∙_, sym}
 use mathlib.Core.Bool.{Bool, true, false, cond, not, _&&_, _||_}
 use mathlib.Core.List.{List, [], _∷_, _++_, map, reverse, reverseAux, reverse-reverse, append-nil}
-use Prim.Native.Nat.{ℕ, zero, suc, _+_, _-_, min}
+use Prim.Native.Nat.{ℕ, zero, suc, _+_, _-_, _/_, _%_, min}
 use native.Mathlib.Omega.{arith}
-use lib.Dec.{ltb}
+use lib.Dec.{ltb, eqb}
 use lib.ListN.{length}
 use Rattle.zynq7000.specs.Bits.{isSet}
 use Rattle.zynq7000.specs.Qspi.{linearWord, configWord}
@@ -23,6 +23,7 @@ use Rattle.qspi_script.specs.Turns.{largestChunk}
 use Rattle.qspi_script.specs.declared.Status.{Status}
 use Rattle.qspi_script.specs.declared.Status.the-variants.{Done, EraseErrorBitSet, ProgrammingErrorBitSet}
 use Rattle.qspi_calls.specs.Machine.{Action, write, drain, reply, Midway, first, again, ready, proceed, Want, reads, writes, Transfer, replicate, Script, ends, exchange, State, going, ended, begin, want, next, Result, halt, logging, made, runs, called}
+use Rattle.qspi_calls.specs.Chunks.{Chunk, chunks}
 use Rattle.qspi_calls.specs.Machine as machine
 use Rattle.qspi_calls.specs.Calls as call
 use Rattle.qspi_calls.specs.Calls.{enabling, statusReading, top, done}
@@ -106,11 +107,14 @@ unfolding runs
 over-runs zero s vs bs n rest = (refl, refl)
 over-runs (suc m) s vs bs n rest = (refl, refl)
 
-logs : (c : Script) (l : List Access) (s : Status) (vs bs : List ℕ) → Plays (begin c [] 0) l (ended s vs bs 0) → Logs c l s
-logs c l s vs bs p m rest =
+counting-logs : (c : Script) (l : List Access) (s : Status) (vs bs : List ℕ) (n : ℕ) → Plays (begin c [] 0) l (ended s vs bs n) → Logs c l s
+counting-logs c l s vs bs n p m rest =
     let h = plays-run l m rest p in
-    let g = over-runs m s vs bs 0 rest in
+    let g = over-runs m s vs bs n rest in
     (h .0 ∙ ap (λ (z : List Access). l ++ z) (g .0) ∙ append-nil l, h .1 ∙ g .1)
+
+logs : (c : Script) (l : List Access) (s : Status) (vs bs : List ℕ) → Plays (begin c [] 0) l (ended s vs bs 0) → Logs c l s
+logs c l s vs bs p = counting-logs c l s vs bs 0 p
 
 -- a call of one transfer: write enable, write disable, clear status, the register reads, both ids
 pub one-transfer : (x : Transfer) (f : List ℕ → List ℕ) (a : Prompt) (rs : List ℕ) → length rs ≡ x .replies → Logs (exchange x (λ q. ends Done (f q))) (promptly x a rs) Done
@@ -122,21 +126,47 @@ enabled-then x a b r rs e =
     logs (call.enabledThen x) (promptly enabling a (r ∷ []) ++ promptly x b rs) Done [] []
     (plays-then (transfer a machine.none (λ q. exchange x done) [] 0 enabling (r ∷ []) refl) (transfer b machine.none done [] 0 x rs e))
 
-abbrev settled : ℕ → Status → List ℕ → Script
-settled bit failure q = machine.onward (not (isSet bit (top q)) && isSet 0 (top q)) (call.settling bit failure (ends Done [])) (machine.onward (isSet bit (top q)) (call.failing failure) (ends Done []))
+-- the log of program and erase: write enable, the work, one status that is clean
+abbrev working : Transfer → Prompt → Prompt → Prompt → ℕ → List ℕ → ℕ → List Access
+working x a b c r rs s = promptly enabling a (r ∷ []) ++ (promptly x b rs ++ promptly statusReading c (s ∷ []))
 
--- program and erase: write enable, the work, one status that is clean
+module _ (bit : ℕ) (failure : Status) (x : Transfer) (then : Script) (n : ℕ) (a b c : Prompt) (r s : ℕ) (rs : List ℕ) where
+  abbrev settled : List ℕ → Script
+  settled q = machine.onward (not (isSet bit (top q)) && isSet 0 (top q)) (call.settling bit failure then) (machine.onward (isSet bit (top q)) (call.failing failure) then)
+
+  works : length rs ≡ x .replies → isSet bit (top (s ∷ [])) ≡ false → isSet 0 (top (s ∷ [])) ≡ false → Plays (begin (call.working bit failure x then) [] n) (working x a b c r rs s) (begin then [] n)
+  works e f g =
+      let p : Plays (begin (call.settling bit failure then) [] n) (promptly statusReading c (s ∷ [])) (begin (settled (s ∷ [])) [] n) = transfer c machine.none settled [] n statusReading (s ∷ []) refl in
+      let q : Plays (begin (call.settling bit failure then) [] n) (promptly statusReading c (s ∷ [])) (begin then [] n) = rw (f, g) at p in
+      plays-then (transfer a machine.none (λ q. exchange x (λ q. call.settling bit failure then)) [] n enabling (r ∷ []) refl)
+      (plays-then (transfer b machine.none (λ q. call.settling bit failure then) [] n x rs e) q)
+
 pub worked : (bit : ℕ) (failure : Status) (x : Transfer) (a b c : Prompt) (r s : ℕ) (rs : List ℕ) → length rs ≡ x .replies → isSet bit (top (s ∷ [])) ≡ false → isSet 0 (top (s ∷ [])) ≡ false
     → Logs (call.working bit failure x (ends Done [])) (promptly enabling a (r ∷ []) ++ (promptly x b rs ++ promptly statusReading c (s ∷ []))) Done
-worked bit failure x a b c r s rs e f g =
-    logs (call.working bit failure x (ends Done [])) (promptly enabling a (r ∷ []) ++ (promptly x b rs ++ promptly statusReading c (s ∷ []))) Done [] []
-    (plays-then (transfer a machine.none (λ q. exchange x (λ q. call.settling bit failure (ends Done []))) [] 0 enabling (r ∷ []) refl)
-    (plays-then (transfer b machine.none (λ q. call.settling bit failure (ends Done [])) [] 0 x rs e) polled))
-  where
-    polled : Plays (begin (call.settling bit failure (ends Done [])) [] 0) (promptly statusReading c (s ∷ [])) (ended Done [] [] 0)
-    polled =
-        let p : Plays (begin (call.settling bit failure (ends Done [])) [] 0) (promptly statusReading c (s ∷ [])) (begin (settled bit failure (s ∷ [])) [] 0) = transfer c machine.none (settled bit failure) [] 0 statusReading (s ∷ []) refl in
-        rw (f, g) at p
+worked bit failure x a b c r s rs e f g = logs (call.working bit failure x (ends Done [])) _ Done [] [] (works bit failure x (ends Done []) 0 a b c r s rs e f g)
+
+-- write_pages: the log of each chunk, one after the other, where `program` accepts each
+pub data PagesLog : List Chunk → List Access → Type 0 where
+  pages-none : PagesLog [] []
+  pages-more : {c : Chunk} {l : List Chunk} {rest : List Access} (a b d : Prompt) (r s : ℕ) (rs : List ℕ) → ltb 16777215 (c .address + length (c .bytes)) ≡ false → ltb 240 (length (c .bytes)) ≡ false
+      → eqb (length (c .bytes) % 4) 0 ≡ true → ltb 256 (c .address % 256 + length (c .bytes)) ≡ false → length rs ≡ length (c .bytes) / 4 → isSet 6 (top (s ∷ [])) ≡ false → isSet 0 (top (s ∷ [])) ≡ false
+      → PagesLog l rest → PagesLog (c ∷ l) (working (call.programming (c .address) (c .bytes)) a b d r rs s ++ rest)
+
+record Counts (l : List Chunk) (n : ℕ) (log : List Access) : Type 0 where
+  count : ℕ
+  plays : Plays (begin (call.pages l) [] n) log (ended Done [] [] count)
+
+pages-play : {l : List Chunk} {log : List Access} (n : ℕ) → PagesLog l log → Counts l n log
+pages-play n pages-none = record { count = n; plays = plays-none }
+pages-play n (pages-more {c} {l} {rest} a b d r s rs e₁ e₃ e₄ e₅ f g h more) =
+    let y = pages-play (n + length (c .bytes)) more in
+    let x = call.programming (c .address) (c .bytes) in
+    let z : Plays (begin (call.pages (c ∷ l)) [] n) (working x a b d r rs s ++ rest) (ended Done [] [] (y .count)) =
+    rw (e₁, e₃, e₄, e₅) (plays-then (works 6 ProgrammingErrorBitSet x (machine.counts (length (c .bytes)) (call.pages l)) n a b d r s rs f g h) (y .plays)) in
+    record { count = y .count; plays = z }
+
+pub pages-logs : (a : ℕ) (bs : List ℕ) (log : List Access) → ltb 16777215 (a + length bs) ≡ false → PagesLog (chunks a bs) log → Logs (call.writePages a bs) log Done
+pages-logs a bs log e p = let y = pages-play 0 p in counting-logs (call.writePages a bs) log Done [] [] (y .count) (rw e (y .plays))
 
 -- set_write_protection: status, config, write enable, both registers
 pub protected-logs : (p : ℕ) (a b c d : Prompt) (s t r u : ℕ) → ltb 7 p ≡ false

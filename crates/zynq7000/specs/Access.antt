@@ -31,6 +31,11 @@ unfoldable pub encode : List Access → List ℕ
 encode [] = []
 encode (a ∷ l) = firstWord a ∷ valueWord a ∷ encode l
 
+-- accesses whose offsets a log can hold
+abbrev pub Loggable : List Access → Type 0
+Loggable [] = Unit {0}
+Loggable (a ∷ l) = Aligned (offsetIn a) × Loggable l
+
 -- rule 13: no access where the first word is above 1FC or not a multiple of 4
 abbrev pub recordOf : ℕ → ℕ → Record
 recordOf first v =

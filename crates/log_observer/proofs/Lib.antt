@@ -1,0 +1,6 @@
+pub mod Following
+pub mod Bounds
+pub mod Sending
+pub mod Commands
+pub mod Shows
+pub mod OfRuns

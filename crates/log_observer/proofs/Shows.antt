@@ -1,0 +1,299 @@
+-- The watch by numbers shows what the lists say, of every log with fewer than 2^30 accesses: so many send fewer than 2^32 bytes. Assumes
+-- nothing.
+use Prim.Native.Nat.{ℕ, zero, suc, _+_, _-_, _%_, _^_, _<_, _≤_}
+use mathlib.Core.Path.{_≡_, refl, sym, ap, _∙_}
+use mathlib.Core.Bool.{Bool, true, false}
+use mathlib.Core.Option.{Option, none, some}
+use mathlib.Core.List.{List, [], _∷_, _++_, append-assoc}
+use lib.Dec.{eqb}
+use lib.ListN.{length, getD, take, drop}
+use native.Mathlib.Omega.{arith}
+use borrow.Author.Tests.{eqb-true, ne-eqb}
+use Rattle.zynq7000.specs.Access.{firstWord, valueWord, encode, Loggable}
+use Rattle.zynq7000.specs.Bits.{isSet}
+use Rattle.zynq7000.specs.declared.qspi.Access.{Access}
+use Rattle.zynq7000.specs.declared.qspi.Access.the-variants as access
+use Rattle.access_log.specs.declared.Entry.the-variants as entry
+use Rattle.access_log.specs.Log.{entryAt}
+use Rattle.access_log.proofs.RoundTrip.{reads-back}
+use Rattle.qspi_calls.specs.Chunks.{Chunk}
+use Rattle.power_cut.specs.Controller.{registerAt, bytesOut}
+use Rattle.power_cut.specs.Observer.{Transfer, closed, opened, Observed, sends, takes, also, closing, enableWritten, seenWrite, seenRead, seen, doubtEnable, doubtAfter, see, sees, observed}
+use Rattle.power_cut.specs.Observer as observer
+use Rattle.power_cut.specs.Statement.{total}
+use Rattle.log_observer.specs.declared.Transfer as declared
+use Rattle.log_observer.specs.declared.Watch.{Watch}
+use Rattle.log_observer.specs.Watching.{counted, withTransfer, takeReply, isClean, wrote, hasRead, watched, watchFrom, watchOf}
+use Rattle.log_observer.specs.Watching as watching
+use Rattle.log_observer.specs.Shown.{spotOf, transferOf, shown}
+use Rattle.log_observer.proofs.Bounds.{OctetsIn, sentIn, bytesIn, Within, total-snoc, length-snoc}
+use Rattle.log_observer.proofs.Sending.{one-sent, two-sent, three-sent, four-sent, sends-octets, sends-most}
+use Rattle.log_observer.proofs.Commands.{commanded-shown, commanded-most, raised-shown, clean-shown}
+use Rattle.log_observer.proofs.Following.{from-access, from-none}
+
+-- ---- the register of an offset
+
+data At : ℕ → Type 0 where
+  at-config : At 0x00
+  at-status : At 0x04
+  at-enable : At 0x14
+  at-rx : At 0x20
+  at-four : At 0x1C
+  at-one : At 0x80
+  at-two : At 0x84
+  at-three : At 0x88
+  at-other : {o : ℕ} → eqb o 0x00 ≡ false → eqb o 0x04 ≡ false → eqb o 0x14 ≡ false → eqb o 0x20 ≡ false → eqb o 0x1C ≡ false → eqb o 0x80 ≡ false
+      → eqb o 0x84 ≡ false → eqb o 0x88 ≡ false → At o
+
+is-at : (o n : ℕ) → eqb o n ≡ true → At n → At o
+is-at o n e a = rw (eqb-true o n e) a
+
+register-at : (o : ℕ) → At o
+register-at o = go0 (eqb o 0x00) refl
+  where
+    go7 : (t : Bool) → eqb o 0x88 ≡ t → eqb o 0x00 ≡ false → eqb o 0x04 ≡ false → eqb o 0x14 ≡ false → eqb o 0x20 ≡ false → eqb o 0x1C ≡ false
+        → eqb o 0x80 ≡ false → eqb o 0x84 ≡ false → At o
+    go7 true e a b c d f g h = is-at o 0x88 e at-three
+    go7 false e a b c d f g h = at-other a b c d f g h e
+
+    go6 : (t : Bool) → eqb o 0x84 ≡ t → eqb o 0x00 ≡ false → eqb o 0x04 ≡ false → eqb o 0x14 ≡ false → eqb o 0x20 ≡ false → eqb o 0x1C ≡ false
+        → eqb o 0x80 ≡ false → At o
+    go6 true e a b c d f g = is-at o 0x84 e at-two
+    go6 false e a b c d f g = go7 (eqb o 0x88) refl a b c d f g e
+
+    go5 : (t : Bool) → eqb o 0x80 ≡ t → eqb o 0x00 ≡ false → eqb o 0x04 ≡ false → eqb o 0x14 ≡ false → eqb o 0x20 ≡ false → eqb o 0x1C ≡ false → At o
+    go5 true e a b c d f = is-at o 0x80 e at-one
+    go5 false e a b c d f = go6 (eqb o 0x84) refl a b c d f e
+
+    go4 : (t : Bool) → eqb o 0x1C ≡ t → eqb o 0x00 ≡ false → eqb o 0x04 ≡ false → eqb o 0x14 ≡ false → eqb o 0x20 ≡ false → At o
+    go4 true e a b c d = is-at o 0x1C e at-four
+    go4 false e a b c d = go5 (eqb o 0x80) refl a b c d e
+
+    go3 : (t : Bool) → eqb o 0x20 ≡ t → eqb o 0x00 ≡ false → eqb o 0x04 ≡ false → eqb o 0x14 ≡ false → At o
+    go3 true e a b c = is-at o 0x20 e at-rx
+    go3 false e a b c = go4 (eqb o 0x1C) refl a b c e
+
+    go2 : (t : Bool) → eqb o 0x14 ≡ t → eqb o 0x00 ≡ false → eqb o 0x04 ≡ false → At o
+    go2 true e a b = is-at o 0x14 e at-enable
+    go2 false e a b = go3 (eqb o 0x20) refl a b e
+
+    go1 : (t : Bool) → eqb o 0x04 ≡ t → eqb o 0x00 ≡ false → At o
+    go1 true e a = is-at o 0x04 e at-status
+    go1 false e a = go2 (eqb o 0x14) refl a e
+
+    go0 : (t : Bool) → eqb o 0x00 ≡ t → At o
+    go0 true e = is-at o 0x00 e at-config
+    go0 false e = go1 (eqb o 0x04) refl e
+
+-- the same with another transfer at hand
+abbrev replaced : Observed → Transfer → Observed
+replaced o u = record { sofar = record { transfer = u; programs = o .sofar .programs; finished = o .sofar .finished }; up = o .up; doubt = o .doubt }
+
+-- ---- a transfer closes
+
+counted-shown : (k : List Chunk) (q : Option Chunk) → length k + 1 < 2 ^ 32 → counted (length k) (spotOf q .there) ≡ length (also k q)
+counted-shown k none h = refl
+counted-shown k (some c) h = omega (arith, length-snoc k c)
+
+bytes-shown : (k : List Chunk) (q : Option Chunk) → bytesIn q + total k < 2 ^ 32 → (total k + spotOf q .length) % 2 ^ 32 ≡ total (also k q)
+bytes-shown k none h = omega arith
+bytes-shown k (some c) h = omega (arith, total-snoc k c)
+
+module _ (k : ℕ) (o : Observed) (m : Within k o) (few : k < 2 ^ 30 - 1) where
+  abbrev t : Transfer
+  t = o .sofar .transfer
+
+  closed-shown : watching.closed (shown o) ≡ shown (see o (access.Write 0x14 0))
+  unfolding see seen seenWrite enableWritten closing doubtAfter doubtEnable registerAt
+  closed-shown = go (observer.isClean t) refl
+    where
+      go : (b : Bool) → observer.isClean t ≡ b → watching.closed (shown o) ≡ shown (see o (access.Write 0x14 0))
+      go true e =
+          simp (clean-shown t (m .octets), e, counted-shown (o .sofar .finished) (o .sofar .programs) (omega (arith, m .few)), bytes-shown (o .sofar .finished) (o .sofar .programs) (omega (arith, m .small)))
+      go false e = simp (clean-shown t (m .octets), e, commanded-shown t (o .sofar .programs) (m .octets))
+
+  opened-shown : (v : ℕ) → watching.enabled (shown o) (suc v) ≡ shown (see o (access.Write 0x14 (suc v)))
+  unfolding see seen seenWrite enableWritten doubtAfter doubtEnable registerAt
+  opened-shown v = simp (ne-eqb (suc v) 0 (λ e. omega arith))
+
+  configured-shown : (v : ℕ) → watching.configured (shown o) v ≡ shown (see o (access.Write 0x00 v))
+  unfolding see seen seenWrite doubtAfter registerAt
+  configured-shown v = simp (raised-shown (o .up) (isSet 10 v) t (o .doubt) (m .octets))
+
+  transfer-shown : (u : Transfer) (x : declared.Transfer) → x ≡ transferOf u → withTransfer (shown o) x ≡ shown (replaced o u)
+  transfer-shown u x e = rw e
+
+  room : sentIn t + 4 < 2 ^ 32
+  room = omega (arith, m .small)
+
+  takes-shown : (u : Transfer) (v : ℕ) → takeReply (transferOf u) v ≡ transferOf (takes v u)
+  takes-shown closed v = refl
+  takes-shown (opened sent reply) v = refl
+
+  write-shown : {off : ℕ} → At off → (v : ℕ) → wrote (shown o) off v ≡ shown (see o (access.Write off v))
+  unfolding see seen seenWrite doubtAfter registerAt
+  write-shown at-config v = configured-shown v
+  write-shown at-status v = refl
+  write-shown at-enable zero = closed-shown
+  write-shown at-enable (suc v) = opened-shown v
+  write-shown at-rx v = refl
+  write-shown at-four v = transfer-shown (sends (bytesOut 4 v) t) (watching.sendFour (transferOf t) v) (four-sent t v (m .octets) room)
+  write-shown at-one v = transfer-shown (sends (bytesOut 1 v) t) (watching.sendOne (transferOf t) v) (one-sent t v (m .octets) room)
+  write-shown at-two v = transfer-shown (sends (bytesOut 2 v) t) (watching.sendTwo (transferOf t) v) (two-sent t v (m .octets) room)
+  write-shown at-three v = transfer-shown (sends (bytesOut 3 v) t) (watching.sendThree (transferOf t) v) (three-sent t v (m .octets) room)
+  write-shown (at-other a b c d f g h i) v = simp (a, b, c, d, f, g, h, i)
+
+  read-shown : {off : ℕ} → At off → (v : ℕ) → hasRead (shown o) off v ≡ shown (see o (access.Read off v))
+  unfolding see seen seenRead registerAt
+  read-shown at-config v = refl
+  read-shown at-status v = refl
+  read-shown at-enable v = refl
+  read-shown at-rx v = transfer-shown (takes v t) (takeReply (transferOf t) v) (takes-shown t v)
+  read-shown at-four v = refl
+  read-shown at-one v = refl
+  read-shown at-two v = refl
+  read-shown at-three v = refl
+  read-shown (at-other a b c d f g h i) v = simp (a, b, c, d, f, g, h, i)
+
+  -- THEOREM. An access adds to the watch what it adds to the lists.
+  pub shows-see : (a : Access) → watched (shown o) a ≡ shown (see o a)
+  shows-see (access.Read off v) = read-shown (register-at off) v
+  shows-see (access.Write off v) = write-shown (register-at off) v
+
+-- ---- one access sends no more than four bytes
+
+also-few : (l : List Chunk) (q : Option Chunk) → length (also l q) ≤ length l + 1
+also-few l none = omega arith
+also-few l (some c) = omega (arith, length-snoc l c)
+
+also-total : (l : List Chunk) (q : Option Chunk) → total (also l q) ≡ bytesIn q + total l
+also-total l none = omega arith
+also-total l (some c) = omega (arith, total-snoc l c)
+
+module _ (k : ℕ) (o : Observed) (m : Within k o) where
+  -- nothing sent, nothing finished
+  same-within : (h : Bool) (d : Option Chunk) → Within (suc k) (record { sofar = o .sofar; up = h; doubt = d })
+  same-within h d = record { octets = m .octets; few = omega (arith, m .few); small = omega (arith, m .small) }
+
+  -- the transfer at hand goes on or another begins
+  transfer-within : (u : Transfer) → OctetsIn u → sentIn u ≤ sentIn (o .sofar .transfer) + 4 → Within (suc k) (replaced o u)
+  transfer-within u p h = record { octets = p; few = omega (arith, m .few); small = omega (arith, m .small) }
+
+  sends-within : (n v : ℕ) → Within (suc k) (replaced o (sends (bytesOut n v) (o .sofar .transfer)))
+  sends-within n v =
+      transfer-within (sends (bytesOut n v) (o .sofar .transfer)) (sends-octets n v (o .sofar .transfer) (m .octets)) (sends-most n v (o .sofar .transfer))
+
+  takes-octets : (u : Transfer) (v : ℕ) → OctetsIn u → OctetsIn (takes v u)
+  takes-octets closed v p = tt
+  takes-octets (opened sent reply) v p = p
+
+  takes-most : (u : Transfer) (v : ℕ) → sentIn (takes v u) ≤ sentIn u + 4
+  takes-most closed v = omega arith
+  takes-most (opened sent reply) v = omega arith
+
+  closing-within : (b : Bool) (d : Option Chunk)
+      → Within (suc k) (record { sofar = closing b (o .sofar .transfer) (o .sofar .programs) (o .sofar .finished); up = o .up; doubt = d })
+  unfolding closing
+  closing-within true d = record {
+    octets = tt;
+    few = omega (arith, m .few, also-few (o .sofar .finished) (o .sofar .programs));
+    small = omega (arith, m .small, also-total (o .sofar .finished) (o .sofar .programs));
+  }
+  closing-within false d = record {
+    octets = tt;
+    few = omega (arith, m .few);
+    small = omega (arith, m .small, commanded-most (o .sofar .transfer) (o .sofar .programs));
+  }
+
+  write-within : {off : ℕ} → At off → (v : ℕ) → Within (suc k) (see o (access.Write off v))
+  unfolding see seen seenWrite enableWritten doubtAfter registerAt
+  write-within at-config v = same-within _ _
+  write-within at-status v = same-within _ _
+  write-within at-enable zero = closing-within (observer.isClean (o .sofar .transfer)) _
+  write-within at-enable (suc v) = record { octets = tt; few = omega (arith, m .few); small = omega (arith, m .small) }
+  write-within at-rx v = same-within _ _
+  write-within at-four v = sends-within 4 v
+  write-within at-one v = sends-within 1 v
+  write-within at-two v = sends-within 2 v
+  write-within at-three v = sends-within 3 v
+  write-within (at-other a b c d f g h i) v = simp (a, b, c, d, f, g, h, i) (same-within _ _)
+
+  read-within : {off : ℕ} → At off → (v : ℕ) → Within (suc k) (see o (access.Read off v))
+  unfolding see seen seenRead registerAt
+  read-within at-config v = same-within _ _
+  read-within at-status v = same-within _ _
+  read-within at-enable v = same-within _ _
+  read-within at-rx v = transfer-within (takes v (o .sofar .transfer)) (takes-octets (o .sofar .transfer) v (m .octets)) (takes-most (o .sofar .transfer) v)
+  read-within at-four v = same-within _ _
+  read-within at-one v = same-within _ _
+  read-within at-two v = same-within _ _
+  read-within at-three v = same-within _ _
+  read-within (at-other a b c d f g h i) v = simp (a, b, c, d, f, g, h, i) (same-within _ _)
+
+  pub within-see : (a : Access) → Within (suc k) (see o a)
+  within-see (access.Read off v) = read-within (register-at off) v
+  within-see (access.Write off v) = write-within (register-at off) v
+
+-- ---- a log
+
+-- from a place on, these accesses stand in the log
+abbrev Holds : List ℕ → ℕ → List Access → Type 0
+Holds log at [] = Unit {0}
+Holds log at (a ∷ l) = (entryAt log at ≡ entry.Access a) × Holds log (suc at) l
+
+module _ (log : List ℕ) where
+  holds : (d : Access) (l : List Access) (at : ℕ) → ((j : ℕ) → j < length l → entryAt log (at + j) ≡ entry.Access (getD l j d)) → Holds log at l
+  holds d [] at f = tt
+  holds d (a ∷ l) at f =
+      let here : at ≡ at + 0 = omega arith in
+      let onward : (j : ℕ) → j < length l → entryAt log (suc at + j) ≡ entry.Access (getD l j d) =
+      λ j h. (let e : suc at + j ≡ at + suc j = omega arith in ap (λ (n : ℕ). entryAt log n) e ∙ f (suc j) (omega arith)) in
+      (ap (λ (n : ℕ). entryAt log n) here ∙ f 0 (omega arith), holds d l (suc at) onward)
+
+  follows : (l : List Access) (at : ℕ) (o : Observed) → Holds log at l → Within at o → at + length l < 2 ^ 30
+      → watchFrom (length l) log at (shown o) ≡ shown (sees o l)
+  unfolding sees
+  follows [] at o h m few = from-none log at (shown o)
+  follows (a ∷ l) at o h m few =
+      from-access (length l) log at (shown o) a (h .0)
+      ∙ (ap (λ (w : Watch). watchFrom (length l) log (suc at) w) (shows-see at o m (omega arith) a)
+      ∙ follows l (suc at) (see o a) (h .1) (within-see at o m a) (omega arith))
+
+-- THEOREM. Of a log that begins with these accesses, whatever follows them, the watch of so many shows what they show.
+pub shows-observed : (l : List Access) (rest : List ℕ) → Loggable l → length l < 2 ^ 30 → watchOf (encode l ++ rest) (length l) ≡ shown (observed l)
+unfolding watchOf observed total
+shows-observed l rest ok few =
+    let d : Access = access.Read 0 0 in
+    let begin : Within 0 observer.fresh = record { octets = tt; few = omega arith; small = omega arith } in
+    let stands : (j : ℕ) → j < length l → entryAt (encode l ++ rest) (0 + j) ≡ entry.Access (getD l j d) =
+    λ j h. (let e : 0 + j ≡ j = omega arith in ap (λ (n : ℕ). entryAt (encode l ++ rest) n) e ∙ reads-back d rest l j ok h) in
+    follows (encode l ++ rest) l 0 observer.fresh (holds (encode l ++ rest) d l 0 stands) begin (omega arith)
+
+-- ---- a cut
+
+loggable-take : (k : ℕ) (l : List Access) → Loggable l → Loggable (take k l)
+loggable-take zero l ok = tt
+loggable-take (suc k) [] ok = tt
+loggable-take (suc k) (a ∷ l) ok = (ok .0, loggable-take k l (ok .1))
+
+length-cut : (k : ℕ) (l : List Access) → k ≤ length l → length (take k l) ≡ k
+length-cut zero l h = refl
+length-cut (suc k) [] h = absurd (omega arith)
+length-cut (suc k) (a ∷ l) h = ap suc (length-cut k l (omega arith))
+
+encode-cut : (k : ℕ) (l : List Access) → encode l ≡ encode (take k l) ++ encode (drop k l)
+unfolding encode
+encode-cut zero l = refl
+encode-cut (suc k) [] = refl
+encode-cut (suc k) (a ∷ l) = ap (λ (w : List ℕ). firstWord a ∷ valueWord a ∷ w) (encode-cut k l)
+
+-- THEOREM. The watch of the first k accesses shows what a log that a cut ended there shows.
+pub shows-cut : (k : ℕ) (l : List Access) (rest : List ℕ) → k ≤ length l → Loggable l → k < 2 ^ 30
+    → watchOf (encode l ++ rest) k ≡ shown (observed (take k l))
+shows-cut k l rest h ok few =
+    let n : length (take k l) ≡ k = length-cut k l h in
+    let words : encode l ++ rest ≡ encode (take k l) ++ (encode (drop k l) ++ rest) =
+    ap (λ (w : List ℕ). w ++ rest) (encode-cut k l) ∙ append-assoc (encode (take k l)) (encode (drop k l)) rest in
+    ap (λ (w : List ℕ). watchOf w k) words
+    ∙ (ap (λ (j : ℕ). watchOf (encode (take k l) ++ (encode (drop k l) ++ rest)) j) (sym n)
+    ∙ shows-observed (take k l) (encode (drop k l) ++ rest) (loggable-take k l ok) (omega (arith, n)))
