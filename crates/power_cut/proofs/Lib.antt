@@ -7,6 +7,7 @@ pub mod Control
 pub mod OnDevice
 pub mod Doubt
 pub mod Theorem
+pub mod Plain
 pub mod Offsets
 pub mod Ways
 pub mod Possible

@@ -9,6 +9,7 @@ pub mod OneTransfer
 pub mod ProgramWords
 pub mod Several
 pub mod Pages
+pub mod PageExamples
 pub mod LowLevelCalls
 pub mod ReadBytes
 pub mod ReadCalls
