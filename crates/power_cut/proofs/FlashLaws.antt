@@ -34,7 +34,7 @@ pub erase-law : (m : Array) (h l₁ l₀ x : ℕ) → l₁ < 256 → l₀ < 256 
 unfolding execute obey commandOf eraseOf
 erase-law m h l₁ l₀ x p q settles =
     let e : addressOf h l₁ l₀ / 65536 * 65536 ≡ h * 65536 = omega arith in
-    rw e (erased-by h x m (eqb (x / 65536) h) refl)
+    ap (λ (z : ℕ). erased z 65536 m x) e ∙ erased-by h x m (eqb (x / 65536) h) refl
 
 -- "need the latch"
 pub program-needs-latch : (m : Array) (bs : List ℕ) → execute (flash m false none) (0x02 ∷ bs) ≡ flash m false none
