@@ -1,26 +1,22 @@
 -- What is seen of so many accesses is no more than they can send: four bytes each, and one chunk each. Assumes nothing.
-use Prim.Native.Nat.{ℕ, _+_, _*_, _<_, _≤_}
+use Prim.Native.Nat.{ℕ, _+_, _*_, _≤_}
 use mathlib.Core.Path.{_≡_}
 use mathlib.Core.Option.{Option, none, some}
 use mathlib.Core.List.{List, [], _∷_, _++_}
 use lib.ListN.{length, length-append}
 use native.Mathlib.Omega.{arith}
 use Rattle.qspi_calls.specs.Chunks.{Chunk}
+use Rattle.qspi_calls.proofs.WireOrder.{AllBytes}
 use Rattle.power_cut.specs.Observer.{Transfer, closed, opened, Observed}
 use Rattle.power_cut.specs.Statement.{total}
 
--- each is a byte
-abbrev pub Octets : List ℕ → Type 0
-Octets [] = Unit {0}
-Octets (b ∷ bs) = (b < 256) × Octets bs
-
-pub octets-append : (a b : List ℕ) → Octets a → Octets b → Octets (a ++ b)
+pub octets-append : (a b : List ℕ) → AllBytes a → AllBytes b → AllBytes (a ++ b)
 octets-append [] b p q = q
 octets-append (x ∷ a) b p q = (p .0, octets-append a b (p .1) q)
 
 abbrev pub OctetsIn : Transfer → Type 0
 OctetsIn closed = Unit {0}
-OctetsIn (opened sent reply) = Octets sent
+OctetsIn (opened sent reply) = AllBytes sent
 
 abbrev pub sentIn : Transfer → ℕ
 sentIn closed = 0
@@ -35,11 +31,6 @@ pub record Within (k : ℕ) (o : Observed) : Type 0 where
   pub octets : OctetsIn (o .sofar .transfer)
   pub few : length (o .sofar .finished) ≤ k
   pub small : sentIn (o .sofar .transfer) + bytesIn (o .sofar .programs) + total (o .sofar .finished) ≤ 4 * k
-
-pub total-snoc : (k : List Chunk) (c : Chunk) → total (k ++ c ∷ []) ≡ total k + length (c .bytes)
-unfolding total
-total-snoc [] c = omega arith
-total-snoc (b ∷ k) c = omega (arith, total-snoc k c)
 
 pub length-snoc : {A : Type 0} (l : List A) (x : A) → length (l ++ x ∷ []) ≡ length l + 1
 length-snoc l x = length-append l (x ∷ [])

@@ -18,7 +18,8 @@ use Rattle.power_cut.specs.Observer.{Transfer, closed, opened, named}
 use Rattle.power_cut.specs.Observer as observer
 use Rattle.log_observer.specs.Watching.{isStatusRead, isClean, addressIn, commanded, raised}
 use Rattle.log_observer.specs.Shown.{spotOf, transferOf}
-use Rattle.log_observer.proofs.Bounds.{Octets, OctetsIn, sentIn, bytesIn}
+use Rattle.qspi_calls.proofs.WireOrder.{AllBytes}
+use Rattle.log_observer.proofs.Bounds.{OctetsIn, sentIn, bytesIn}
 
 -- ---- page program
 
@@ -126,7 +127,7 @@ clean-cond true true b = refl
 clean-cond true false b = refl
 clean-cond false e b = refl
 
-status-shown : (sent : List ℕ) (reply : ℕ) → Octets sent → isStatusRead (transferOf (opened sent reply)) ≡ controller.isStatusRead sent
+status-shown : (sent : List ℕ) (reply : ℕ) → AllBytes sent → isStatusRead (transferOf (opened sent reply)) ≡ controller.isStatusRead sent
 unfolding controller.isStatusRead
 status-shown [] reply o = refl
 status-shown (a ∷ []) reply o = refl

@@ -1,8 +1,8 @@
 -- Bytes sent one by one: their number, and the first four as a word, follow the list. Assumes nothing.
-use Prim.Native.Nat.{ℕ, zero, suc, _+_, _/_, _%_, _^_, _<_, _≤_}
+use Prim.Native.Nat.{ℕ, _+_, _/_, _%_, _^_, _<_, _≤_}
 use mathlib.Core.Path.{_≡_, refl, ap, _∙_}
 use mathlib.Core.List.{List, [], _∷_, _++_, append-assoc}
-use lib.ListN.{length, take, length-append}
+use lib.ListN.{length, take, length-append, length-take}
 use native.Mathlib.Omega.{arith}
 use borrow.Author.Tests.{ne-eqb}
 use Rattle.zedboard_bsp.specs.Words.{wordOf, bytesOf}
@@ -11,10 +11,12 @@ use Rattle.power_cut.specs.Observer.{Transfer, closed, opened, sends}
 use Rattle.log_observer.specs.declared.Transfer as declared
 use Rattle.log_observer.specs.Watching.{headWith, push, sendOne, sendTwo, sendThree, sendFour}
 use Rattle.log_observer.specs.Shown.{transferOf}
-use Rattle.log_observer.proofs.Bounds.{Octets, octets-append, OctetsIn, sentIn, length-snoc}
+use Rattle.qspi_calls.proofs.WireOrder.{AllBytes}
+use Rattle.power_cut.proofs.Fits.{bytes-take}
+use Rattle.log_observer.proofs.Bounds.{octets-append, OctetsIn, sentIn, length-snoc}
 
 -- the head with one more byte
-head-snoc : (sent : List ℕ) (b : ℕ) → Octets sent → b < 256
+head-snoc : (sent : List ℕ) (b : ℕ) → AllBytes sent → b < 256
     → headWith (wordOf (take 4 sent)) (length sent) b ≡ wordOf (take 4 (sent ++ b ∷ []))
 head-snoc [] b o h = omega arith
 head-snoc (x ∷ []) b o h = let hx : x < 256 = o .0 in omega arith
@@ -32,7 +34,7 @@ head-snoc (x ∷ y ∷ z ∷ t ∷ sent) b o h =
     simp (ne-eqb n 0 (λ e. omega arith), ne-eqb n 1 (λ e. omega arith), ne-eqb n 2 (λ e. omega arith), ne-eqb n 3 (λ e. omega arith))
 
 -- one more byte
-push-snoc : (sent : List ℕ) (reply b : ℕ) → Octets sent → b < 256 → length sent + 1 < 2 ^ 32
+push-snoc : (sent : List ℕ) (reply b : ℕ) → AllBytes sent → b < 256 → length sent + 1 < 2 ^ 32
     → push (transferOf (opened sent reply)) b ≡ transferOf (opened (sent ++ b ∷ []) reply)
 push-snoc sent reply b o h m =
     let n : (length sent + 1) % 2 ^ 32 ≡ length (sent ++ b ∷ []) = omega (arith, length-snoc sent b) in
@@ -50,7 +52,7 @@ four-more l a b c d = append-assoc l (a ∷ b ∷ c ∷ []) (d ∷ [])
 
 -- ---- words of one to four bytes
 
-module _ (sent : List ℕ) (reply v : ℕ) (o : Octets sent) (m : length sent + 4 < 2 ^ 32) where
+module _ (sent : List ℕ) (reply v : ℕ) (o : AllBytes sent) (m : length sent + 4 < 2 ^ 32) where
   abbrev b0 : ℕ
   b0 = v % 256
 
@@ -113,25 +115,15 @@ four-sent (opened sent reply) v o m = sent-four sent reply v o m
 
 -- ---- what stays within bounds
 
-out-octets : (v : ℕ) → Octets (bytesOf v)
+out-octets : (v : ℕ) → AllBytes (bytesOf v)
 out-octets v = (omega arith, (omega arith, (omega arith, (omega arith, tt))))
-
-octets-take : (n : ℕ) (l : List ℕ) → Octets l → Octets (take n l)
-octets-take zero l o = tt
-octets-take (suc n) [] o = tt
-octets-take (suc n) (b ∷ l) o = (o .0, octets-take n l (o .1))
-
-length-take-le : (n : ℕ) (l : List ℕ) → length (take n l) ≤ length l
-length-take-le zero l = omega arith
-length-take-le (suc n) [] = omega arith
-length-take-le (suc n) (b ∷ l) = let h : length (take n l) ≤ length l = length-take-le n l in omega arith
 
 pub sends-octets : (n v : ℕ) (t : Transfer) → OctetsIn t → OctetsIn (sends (bytesOut n v) t)
 unfolding bytesOut
 sends-octets n v closed o = tt
-sends-octets n v (opened sent reply) o = octets-append sent (bytesOut n v) o (octets-take n (bytesOf v) (out-octets v))
+sends-octets n v (opened sent reply) o = octets-append sent (bytesOut n v) o (bytes-take n (bytesOf v) (out-octets v))
 
 pub sends-most : (n v : ℕ) (t : Transfer) → sentIn (sends (bytesOut n v) t) ≤ sentIn t + 4
 unfolding bytesOut
 sends-most n v closed = omega arith
-sends-most n v (opened sent reply) = omega (arith, length-append sent (bytesOut n v), length-take-le n (bytesOf v))
+sends-most n v (opened sent reply) = omega (arith, length-append sent (bytesOut n v), length-take n (bytesOf v))

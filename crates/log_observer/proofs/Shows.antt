@@ -6,7 +6,7 @@ use mathlib.Core.Bool.{Bool, true, false}
 use mathlib.Core.Option.{Option, none, some}
 use mathlib.Core.List.{List, [], _∷_, _++_, append-assoc}
 use lib.Dec.{eqb}
-use lib.ListN.{length, getD, take, drop}
+use lib.ListN.{length, getD, take, drop, length-take}
 use native.Mathlib.Omega.{arith}
 use borrow.Author.Tests.{eqb-true, ne-eqb}
 use Rattle.zynq7000.specs.Access.{firstWord, valueWord, encode, Loggable}
@@ -26,7 +26,8 @@ use Rattle.log_observer.specs.declared.Watch.{Watch}
 use Rattle.log_observer.specs.Watching.{counted, withTransfer, takeReply, isClean, wrote, hasRead, watched, watchFrom, watchOf}
 use Rattle.log_observer.specs.Watching as watching
 use Rattle.log_observer.specs.Shown.{spotOf, transferOf, shown}
-use Rattle.log_observer.proofs.Bounds.{OctetsIn, sentIn, bytesIn, Within, total-snoc, length-snoc}
+use Rattle.power_cut.proofs.Driver.{total-snoc}
+use Rattle.log_observer.proofs.Bounds.{OctetsIn, sentIn, bytesIn, Within, length-snoc}
 use Rattle.log_observer.proofs.Sending.{one-sent, two-sent, three-sent, four-sent, sends-octets, sends-most}
 use Rattle.log_observer.proofs.Commands.{commanded-shown, commanded-most, raised-shown, clean-shown}
 use Rattle.log_observer.proofs.Following.{from-access, from-none}
@@ -276,11 +277,6 @@ loggable-take zero l ok = tt
 loggable-take (suc k) [] ok = tt
 loggable-take (suc k) (a ∷ l) ok = (ok .0, loggable-take k l (ok .1))
 
-length-cut : (k : ℕ) (l : List Access) → k ≤ length l → length (take k l) ≡ k
-length-cut zero l h = refl
-length-cut (suc k) [] h = absurd (omega arith)
-length-cut (suc k) (a ∷ l) h = ap suc (length-cut k l (omega arith))
-
 encode-cut : (k : ℕ) (l : List Access) → encode l ≡ encode (take k l) ++ encode (drop k l)
 unfolding encode
 encode-cut zero l = refl
@@ -291,7 +287,7 @@ encode-cut (suc k) (a ∷ l) = ap (λ (w : List ℕ). firstWord a ∷ valueWord 
 pub shows-cut : (k : ℕ) (l : List Access) (rest : List ℕ) → k ≤ length l → Loggable l → k < 2 ^ 30
     → watchOf (encode l ++ rest) k ≡ shown (observed (take k l))
 shows-cut k l rest h ok few =
-    let n : length (take k l) ≡ k = length-cut k l h in
+    let n : length (take k l) ≡ k = omega (arith, length-take k l, h) in
     let words : encode l ++ rest ≡ encode (take k l) ++ (encode (drop k l) ++ rest) =
     ap (λ (w : List ℕ). w ++ rest) (encode-cut k l) ∙ append-assoc (encode (take k l)) (encode (drop k l)) rest in
     ap (λ (w : List ℕ). watchOf w k) words

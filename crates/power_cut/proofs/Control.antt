@@ -1,7 +1,7 @@
 -- One transfer against the controller, proved once for every transfer: what the controller holds at each phase, kept by each access of the
 -- driver and by each word that goes out. Assumes nothing.
 use mathlib.Core.Path.{_≡_, refl, ap, _∙_, sym}
-use mathlib.Core.Bool.{Bool, true, false, not, _&&_, cond, true≢false}
+use mathlib.Core.Bool.{Bool, true, false, cond}
 use mathlib.Core.List.{List, [], _∷_, _++_, map, append-assoc, append-nil, cons≢nil}
 use Prim.Native.Nat.{ℕ, zero, suc, _+_, _-_, _≤_, _<_}
 use native.Mathlib.Omega.{arith}
@@ -14,8 +14,9 @@ use Rattle.qspi_transfer.specs.LowLevel.{chipSelectHigh, chipSelectLow, started
 use Rattle.qspi_transfer.specs.Wire.{waits}
 use Rattle.qspi_calls.specs.Machine.{Transfer, wantAt}
 use Rattle.power_cut.specs.Flash.{Flash, execute}
-use Rattle.power_cut.specs.Controller.{Register, tx, registerAt, bytesOut, high, manual, Device, device, Shows, configured, afterWrite, afterRead, effect, someWait, Oldest, GivenBy, Gives, AllOut}
-use Rattle.power_cut.proofs.Driver.{Phase, draining, dropping, opening, lowering, switching, sending, starting, releasing, waiting, again, taking, closing, raising, leaving, words, midway, action, sendNext, takeNext, phaseAfter, takenAfter}
+use Rattle.power_cut.specs.Controller.{tx, registerAt, bytesOut, high, manual, Device, device, Shows, configured, afterWrite, afterRead, effect, someWait, GivenBy, Gives, AllOut}
+use Rattle.qspi_calls.proofs.Phases.{words}
+use Rattle.power_cut.proofs.Driver.{Phase, draining, dropping, opening, lowering, switching, sending, starting, releasing, waiting, again, taking, closing, raising, leaving, midway, action, sendNext, takeNext, phaseAfter, takenAfter}
 use Rattle.power_cut.proofs.Levels.{high-put, high-clear, high-start, high-stored, starts-put, starts-stored, starts-high, starts-low, manual-high, manual-low, manual-start, manual-stored}
 use Rattle.power_cut.proofs.Watch.{Matches, m-read, m-write, flat, newest}
 

@@ -2,8 +2,8 @@
 use mathlib.Core.Path.{_≡_, refl, ap, ap₂, _∙_, sym}
 use mathlib.Core.Bool.{Bool, true, false, not, _&&_, cond}
 use mathlib.Core.Option.{Option, none, some}
-use mathlib.Core.List.{List, [], _∷_, _++_, map, reverse}
-use Prim.Native.Nat.{ℕ, zero, suc}
+use mathlib.Core.List.{List, [], _∷_, _++_}
+use Prim.Native.Nat.{ℕ}
 use lib.ListN.{length}
 use Rattle.zynq7000.specs.Access.{valueWord}
 use Rattle.zynq7000.specs.Bits.{isSet, clear}
@@ -13,16 +13,15 @@ use Rattle.zedboard_bsp.specs.Words.{topByte}
 use Rattle.qspi_transfer.specs.LowLevel.{chipSelectHigh, chipSelectLow, started}
 use Rattle.qspi_transfer.specs.Wire.{waits}
 use Rattle.qspi_calls.specs.Chunks.{Chunk}
-use Rattle.qspi_calls.specs.Machine.{want, wantAt}
-use Rattle.qspi_calls.specs.Calls.{top}
+use Rattle.qspi_calls.specs.Machine.{wantAt}
 use Rattle.power_cut.specs.Flash.{Flash, commandOf}
-use Rattle.power_cut.specs.Controller.{tx, registerAt, bytesOut, high, isStatusRead, Device, device, released, unreleased, configured, afterRead, afterWrite, effect}
-use Rattle.power_cut.specs.Observer.{Transfer, closed, opened, Seen, named, commanded, isClean, seen, Observed, raised, unless, doubtEnable, doubtAfter, see}
-use Rattle.power_cut.proofs.Driver.{Phase, draining, dropping, opening, lowering, switching, sending, starting, releasing, waiting, again, taking, closing, raising, leaving, words, midway, action, sendNext, takeNext, phaseAfter, takenAfter, isLast, Stage, enables, programs, polls, clears, disables, transferOf, Ending, succeeded, failed, refuses, Driver, at, over, Verdict, accepts, refusesWith, verdictOn, startOn, startNext, settled, stageAfter, driverAfter}
+use Rattle.power_cut.specs.Controller.{tx, registerAt, bytesOut, high, isStatusRead, Device, device, configured, afterRead, afterWrite, effect}
+use Rattle.power_cut.specs.Observer.{Transfer, closed, opened, Seen, commanded, isClean, seen, Observed, raised, unless, doubtEnable, doubtAfter, see}
+use Rattle.power_cut.proofs.Driver.{Phase, dropping, opening, waiting, again, taking, midway, action, sendNext, takeNext, phaseAfter, isLast, Stage, enables, programs, polls, clears, disables, transferOf, Driver, at, over, Verdict, accepts, refusesWith, verdictOn, startOn, startNext, settled, stageAfter, driverAfter}
 use Rattle.power_cut.proofs.Fits.{Fit, Going}
-use Rattle.power_cut.proofs.Levels.{high-put, high-clear, high-start, high-stored}
+use Rattle.power_cut.proofs.Levels.{high-put, high-start, high-stored}
 use Rattle.power_cut.proofs.Watch.{Matches, m-read, m-write, width, port-is, asked, asks-program, program-unclean, newest, newest-one, view, programsEnd}
-use Rattle.power_cut.proofs.Control.{Up, Down, Ctl, c-drain, c-drop, c-open, c-lower, c-switch, c-send, c-start, c-release, c-wait, c-again, c-take, c-close, c-raise, c-leave}
+use Rattle.power_cut.proofs.Control.{Ctl, c-drain, c-drop, c-open, c-lower, c-switch, c-send, c-start, c-release, c-wait, c-again, c-take, c-close, c-raise, c-leave}
 use Rattle.power_cut.proofs.OnDevice.{last-or, last-sends, last-take}
 
 abbrev pub upOf : Device → Bool

@@ -2,7 +2,7 @@
 -- of the list machine holds what comes next as a function; here it can be taken apart. Assumes nothing.
 use mathlib.Core.Path.{_≡_, refl, ap, _∙_, sym}
 use mathlib.Core.Bool.{Bool, true, false, not, _&&_, cond, true≢false}
-use mathlib.Core.Option.{Option, none, some}
+use mathlib.Core.Option.{none}
 use mathlib.Core.List.{List, [], _∷_, _++_, map, reverse}
 use Prim.Native.Nat.{ℕ, zero, suc, _+_, _%_}
 use native.Mathlib.Omega.{arith}
@@ -15,8 +15,9 @@ use Rattle.qspi_script.specs.declared.Status.{Status}
 use Rattle.qspi_script.specs.declared.Status.the-variants.{Done, OutOfRange, DataTooLarge, NotAligned, CrossesPageBoundary, ProgrammingErrorBitSet}
 use Rattle.qspi_calls.specs.Chunks.{Chunk, chunks}
 use Rattle.qspi_calls.specs.Machine as machine
-use Rattle.qspi_calls.specs.Machine.{Action, write, modify, drain, reply, Midway, first, changed, ready, Want, reads, writes, Progress, stays, takes, progress, Transfer, replicate, replying, Script, ends, counts, exchange, State, going, ended, onward, begin, moves, want, next}
-use Rattle.qspi_calls.specs.Calls.{enabling, disabling, clearing, statusReading, programming, top, refused, failing, settling, working, programThen, pages, writePages}
+use Rattle.qspi_calls.specs.Machine.{Action, write, modify, drain, reply, Midway, first, changed, ready, stays, Transfer, replicate, replying, Script, counts, exchange, State, going, ended, onward, begin, moves, next}
+use Rattle.qspi_calls.specs.Calls.{enabling, disabling, clearing, statusReading, programming, top, refused, failing, settling, working, pages, writePages}
+use Rattle.qspi_calls.proofs.Phases.{words}
 use Rattle.power_cut.specs.Statement.{total}
 
 -- ---- a transfer
@@ -32,9 +33,6 @@ pub data Phase : Type 0 where
   closing : Phase
   raising : ℕ → Phase
   leaving : Phase
-
-abbrev pub words : Transfer → List ℕ
-words x = x .command ∷ x .further
 
 abbrev pub midway : Phase → Midway
 midway draining = first

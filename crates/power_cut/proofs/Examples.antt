@@ -3,19 +3,18 @@
 -- select rises, the statement is false, by a run of four bytes whose data word is left behind. Assumes nothing.
 use mathlib.Core.Path.{_≡_, refl, _∙_, sym}
 use mathlib.Core.Bool.{Bool, true, false, true≢false}
-use mathlib.Core.Option.{Option, none, some}
-use mathlib.Core.List.{List, [], _∷_, _++_}
-use Prim.Native.Nat.{ℕ, zero, suc, _<_}
+use mathlib.Core.Option.{none, some}
+use mathlib.Core.List.{List, [], _∷_}
+use Prim.Native.Nat.{ℕ}
 use native.Mathlib.Omega.{arith}
-use lib.Bits.{bitAnd}
-use lib.ListN.{length, getD, take}
+use lib.ListN.{take}
 use Rattle.zynq7000.specs.declared.qspi.Access.{Access}
 use Rattle.zynq7000.specs.declared.qspi.Access.the-variants as access
 use Rattle.qspi_script.specs.declared.Status.the-variants.{Done}
 use Rattle.qspi_calls.specs.Chunks.{Chunk, chunksIn, chunks, Among, here}
 use Rattle.qspi_calls.specs.Machine.{Result, countIn, runs, called}
 use Rattle.qspi_calls.specs.Calls.{writePages}
-use Rattle.power_cut.specs.Flash.{Array, Flash, flash, busy, programOf, eraseOf, commandOf, byteAddress, landsFrom, lands, programmed, obey, execute, settles, AfterCut}
+use Rattle.power_cut.specs.Flash.{Array, Flash, flash, busy, programOf, eraseOf, commandOf, programmed, obey, execute, settles, AfterCut}
 use Rattle.power_cut.specs.Controller.{registerAt, bytesOut, isStatusRead, showsBusy, showsProgramError, showsEraseError, Device, device, flashOf, Shows, out, idle, configured, afterWrite, afterRead, effect, GivenBy, Gives, AllOut, Trace, still, quiet, step, Rests, rests}
 use Rattle.power_cut.specs.Observer.{Observed, isClean, closing, enableWritten, seenWrite, seenRead, seen, raised, doubtEnable, doubtAfter, see, sees, observed}
 use Rattle.power_cut.specs.Statement.{Kept}

@@ -1,23 +1,24 @@
 -- What holds of every state that a run of `write_pages` reaches, whatever the replies: the chunk at hand is one that `program` accepts, and
 -- the chunks done, at hand and left make up the data. Assumes nothing.
-use mathlib.Core.Path.{_≡_, refl, ap, _∙_, sym}
-use mathlib.Core.Bool.{Bool, true, false, not, _&&_, cond, true≢false}
-use mathlib.Core.List.{List, [], _∷_, _++_, append-nil, reverse}
-use Prim.Native.Nat.{ℕ, zero, suc, _+_, _-_, _%_, _≤_, _<_, min}
+use mathlib.Core.Path.{_≡_, refl, _∙_}
+use mathlib.Core.Bool.{Bool, true, false, cond, true≢false}
+use mathlib.Core.List.{List, [], _∷_, _++_, reverse}
+use Prim.Native.Nat.{ℕ, zero, suc, _+_, _-_, _%_, _≤_, _<_}
 use native.Mathlib.Omega.{arith}
 use lib.Dec.{ltb, eqb}
-use lib.ListN.{length, take, drop, length-take, length-drop}
+use lib.ListN.{length, take, drop, length-take}
 use lib.Seq.{append-snoc}
-use borrow.Author.Tests.{ltb-true, ltb-false, eqb-true}
+use borrow.Author.Tests.{ltb-false, eqb-true}
 use Rattle.zynq7000.specs.Bits.{isSet}
 use Rattle.qspi_transfer.specs.Wire.{waits}
 use Rattle.qspi_script.specs.declared.Status.{Status}
-use Rattle.qspi_script.specs.declared.Status.the-variants.{Done, OutOfRange, DataTooLarge, NotAligned, CrossesPageBoundary, ProgrammingErrorBitSet}
+use Rattle.qspi_script.specs.declared.Status.the-variants.{Done, OutOfRange}
 use Rattle.qspi_calls.specs.Chunks.{Chunk, chunksIn, chunks}
 use Rattle.qspi_calls.specs.Machine.{Transfer}
 use Rattle.qspi_calls.specs.Calls.{top}
 use Rattle.qspi_calls.proofs.WireOrder.{AllBytes}
-use Rattle.power_cut.proofs.Driver.{Phase, draining, dropping, opening, lowering, switching, sending, starting, releasing, waiting, again, taking, closing, raising, leaving, words, sendNext, takeNext, phaseAfter, takenAfter, isLast, Stage, enables, programs, polls, clears, disables, transferOf, Ending, succeeded, failed, refuses, Driver, at, over, Verdict, accepts, refusesWith, judge, verdictOn, startOn, startNext, settled, stageAfter, driverAfter, driverStart}
+use Rattle.qspi_calls.proofs.Phases.{words}
+use Rattle.power_cut.proofs.Driver.{Phase, draining, dropping, opening, lowering, switching, sending, starting, releasing, waiting, again, taking, closing, raising, leaving, sendNext, takeNext, phaseAfter, takenAfter, isLast, Stage, enables, programs, polls, clears, disables, transferOf, Ending, succeeded, failed, refuses, Driver, at, over, Verdict, accepts, refusesWith, judge, verdictOn, startOn, startNext, settled, stageAfter, driverAfter, driverStart}
 
 -- ---- chunks
 
@@ -42,7 +43,7 @@ abbrev pub AllFit : List Chunk → Type 0
 AllFit [] = Unit {0}
 AllFit (c ∷ l) = Fit c × AllFit l
 
-bytes-take : (n : ℕ) (l : List ℕ) → AllBytes l → AllBytes (take n l)
+pub bytes-take : (n : ℕ) (l : List ℕ) → AllBytes l → AllBytes (take n l)
 bytes-take zero l h = tt
 bytes-take (suc n) [] h = tt
 bytes-take (suc n) (x ∷ l) h = (h .0, bytes-take n l (h .1))

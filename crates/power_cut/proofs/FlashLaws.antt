@@ -1,15 +1,14 @@
 -- The definition of the flash read back: an erase makes the sector that holds its address FF and nothing else, both commands need the latch,
 -- and no command reaches past the array's 16,777,216 bytes. Assumes nothing.
-use mathlib.Core.Path.{_≡_, refl, ap, _∙_, sym}
+use mathlib.Core.Path.{_≡_, refl, ap, _∙_}
 use mathlib.Core.Bool.{Bool, true, false, cond, _&&_, true≢false}
-use mathlib.Core.Option.{Option, none, some}
-use mathlib.Core.List.{List, [], _∷_, _++_}
-use Prim.Native.Nat.{ℕ, zero, suc, _+_, _*_, _/_, _%_, _≤_, _<_}
+use mathlib.Core.Option.{none, some}
+use mathlib.Core.List.{List, [], _∷_}
+use Prim.Native.Nat.{ℕ, suc, _+_, _*_, _/_, _≤_, _<_}
 use native.Mathlib.Omega.{arith}
 use lib.Dec.{eqb, leb, ltb}
-use borrow.Author.Tests.{eq-eqb, ne-eqb, eqb-true, eqb-false, leb-true, le-leb, lt-ltb, le-ltb}
-use Rattle.qspi_calls.specs.Chunks.{Chunk}
-use Rattle.power_cut.specs.Flash.{Array, Command, pageProgram, sectorErase, addressOf, programOf, eraseOf, commandOf, byteAddress, landsFrom, lands, erased, Work, programming, erasing, Flash, flash, obey, execute, Settles, settles}
+use borrow.Author.Tests.{eqb-true, eqb-false, leb-true, le-leb, lt-ltb, le-ltb}
+use Rattle.power_cut.specs.Flash.{Array, addressOf, programOf, eraseOf, commandOf, byteAddress, landsFrom, lands, erased, Flash, flash, obey, execute, Settles, settles}
 
 abbrev arrayOf : Flash → Array
 arrayOf (flash m latch w) = m

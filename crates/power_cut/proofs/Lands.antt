@@ -1,20 +1,18 @@
 -- Where the bytes of chunks land, and what finished chunks leave in the array. Assumes nothing.
-use mathlib.Core.Path.{_≡_, refl, ap, _∙_, sym}
-use mathlib.Core.Bool.{Bool, true, false, cond}
-use mathlib.Core.Option.{Option, none, some}
+use mathlib.Core.Path.{_≡_, refl, ap, _∙_}
+use mathlib.Core.Option.{none, some}
 use mathlib.Core.Logic.{_⊎_, inl, inr}
-use mathlib.Core.List.{List, [], _∷_, _++_, append-assoc}
-use Prim.Native.Nat.{ℕ, zero, suc, _+_, _-_, _*_, _/_, _%_, _≤_, _<_, min}
+use mathlib.Core.List.{List, [], _∷_, _++_}
+use Prim.Native.Nat.{ℕ, zero, suc, _+_, _-_, _%_, _≤_, _<_}
 use native.Mathlib.Omega.{arith}
 use native.Mathlib.Decide.{decLe}
 use lib.Bits.{bitAnd}
-use lib.Dec.{eqb}
 use lib.ListN.{length, getD, take, drop, length-take, length-drop}
 use borrow.Author.Tests.{eq-eqb, ne-eqb}
 use Rattle.qspi_calls.specs.Chunks.{Chunk, chunksIn, chunks, Among, here, there}
-use Rattle.power_cut.specs.Flash.{Array, byteAddress, landsFrom, lands, anded, programmed}
+use Rattle.power_cut.specs.Flash.{Array, byteAddress, landsFrom, lands, programmed}
 use Rattle.power_cut.specs.Statement.{In, total}
-use Rattle.power_cut.proofs.Fits.{Sound, Fit, AllFit}
+use Rattle.power_cut.proofs.Fits.{Fit, AllFit}
 
 -- ---- one chunk
 

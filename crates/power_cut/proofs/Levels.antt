@@ -1,14 +1,17 @@
 -- The bits of config that the controller goes by, under the driver's changes: chip select (10), start (16), and the two bits (14, 15) that make
 -- both the program's. Assumes nothing.
-use mathlib.Core.Path.{_≡_, refl, ap, ap₂, _∙_, sym}
+use mathlib.Core.Path.{_≡_, ap, ap₂}
 use mathlib.Core.Bool.{Bool, true, false, _&&_}
 use Prim.Native.Nat.{ℕ}
 use native.Mathlib.Omega.{arith}
 use lib.Dec.{eqb}
-use Rattle.zynq7000.specs.Bits.{bit, isSet, put, clear}
+use Rattle.zynq7000.specs.Bits.{isSet, put, clear}
 use Rattle.zynq7000.proofs.BitLaws.{put-own, clear-own, put-other, clear-other}
 use Rattle.qspi_transfer.specs.LowLevel.{chipSelectHigh, chipSelectLow, started}
 use Rattle.power_cut.specs.Controller.{high, manual}
+
+pub both-set : {a b : Bool} → a ≡ true → b ≡ true → (a && b) ≡ true
+both-set e f = rw (e, f)
 
 abbrev is-one : ℕ → Bool
 is-one n = eqb n 1

@@ -1,21 +1,17 @@
 -- Every access of a run of `write_pages` is to an offset that a log can hold, and the words of such accesses are those of no others. Assumes
 -- nothing.
-use mathlib.Core.Path.{_≡_, refl, ap, _∙_, sym}
-use mathlib.Core.Bool.{Bool, true, false, true≢false}
+use mathlib.Core.Path.{_≡_, refl, _∙_, sym}
 use mathlib.Core.List.{List, [], _∷_, head-eq-of-cons-eq, tail-eq-of-cons-eq, cons≢nil, nil≢cons}
-use Prim.Native.Nat.{ℕ, zero, suc, _%_, _<_}
+use Prim.Native.Nat.{ℕ}
 use native.Mathlib.Omega.{arith}
-use lib.ListN.{length}
 use Rattle.zynq7000.specs.Access.{offsetIn, firstWord, valueWord, Aligned, encode, Loggable, recordOf}
 use Rattle.zynq7000.specs.declared.qspi.Access.{Access}
-use Rattle.zynq7000.specs.declared.qspi.Access.the-variants as access
-use Rattle.zynq7000.specs.declared.qspi.Record.{Record}
 use Rattle.zynq7000.specs.declared.qspi.Record.the-variants as record-of
 use Rattle.zynq7000.proofs.AccessLaws.{read-words}
 use Rattle.qspi_calls.specs.Chunks.{Chunk}
 use Rattle.qspi_calls.specs.Machine.{want, wantAt, runs, called}
 use Rattle.qspi_calls.specs.Calls.{writePages}
-use Rattle.power_cut.proofs.Driver.{Phase, draining, dropping, opening, lowering, switching, sending, starting, releasing, waiting, again, taking, closing, raising, leaving, midway, action, Stage, enables, programs, polls, clears, disables, transferOf, Driver, at, over, stateOf, driverAfter, driverStart, start-is}
+use Rattle.power_cut.proofs.Driver.{Phase, draining, dropping, opening, lowering, switching, sending, starting, releasing, waiting, again, taking, closing, raising, leaving, midway, action, Stage, enables, programs, polls, clears, disables, transferOf, Driver, at, stateOf, driverAfter, driverStart, start-is}
 use Rattle.power_cut.proofs.Watch.{Matches, m-read, m-write}
 use Rattle.power_cut.proofs.Theorem.{Follows, follows-on, makes}
 

@@ -1,28 +1,26 @@
 -- The driver and the device together: at each stage of a chunk the flash is idle, has its latch set, or works on that chunk. Kept by every
 -- access and by everything silent. Assumes nothing.
 use mathlib.Core.Path.{_≡_, refl, ap, _∙_, sym}
-use mathlib.Core.Bool.{Bool, true, false, not, _&&_, cond, true≢false}
-use mathlib.Core.Option.{Option, none, some}
-use mathlib.Core.List.{List, [], _∷_, _++_, append-assoc, append-nil, reverse}
-use Prim.Native.Nat.{ℕ, zero, suc, _+_, _-_, _*_, _/_, _%_, _≤_, _<_}
+use mathlib.Core.Bool.{Bool, true, false, cond, true≢false}
+use mathlib.Core.Option.{none, some}
+use mathlib.Core.List.{List, [], _∷_, _++_, append-assoc, append-nil}
+use Prim.Native.Nat.{ℕ, zero, suc, _+_, _-_, _≤_, _<_}
 use native.Mathlib.Omega.{arith}
-use lib.ListN.{length, length-append}
+use lib.ListN.{length}
 use Rattle.zynq7000.specs.Access.{valueWord}
-use Rattle.zynq7000.specs.Bits.{isSet}
 use Rattle.zynq7000.specs.declared.qspi.Access.{Access}
 use Rattle.qspi_transfer.specs.Wire.{waits}
-use Rattle.zedboard_bsp.specs.Words.{topByte}
 use Rattle.qspi_calls.specs.Chunks.{Chunk}
 use Rattle.qspi_calls.specs.Machine.{Transfer, want, wantAt}
-use Rattle.qspi_calls.specs.Calls.{top}
 use Rattle.qspi_calls.proofs.ProgramWords.{length-words}
 use Rattle.power_cut.specs.Flash.{Array, programmed, programming, Flash, flash, busy, commandOf, obey, execute, Settles, settles}
-use Rattle.power_cut.specs.Controller.{registerAt, bytesOut, high, manual, showsBusy, showsProgramError, isStatusRead, Device, device, Shows, Silent, out, unasked, idle, afterWrite, effect, Gives, AllOut}
-use Rattle.power_cut.proofs.Driver.{Phase, draining, dropping, opening, lowering, switching, sending, starting, releasing, waiting, again, taking, closing, raising, leaving, words, midway, action, sendNext, takeNext, phaseAfter, takenAfter, isLast, Stage, enables, programs, polls, clears, disables, transferOf, Ending, succeeded, failed, refuses, Driver, at, over, stateOf, Verdict, accepts, refusesWith, verdictOn, startOn, startNext, settled, stageAfter, driverAfter}
+use Rattle.power_cut.specs.Controller.{registerAt, bytesOut, showsBusy, showsProgramError, isStatusRead, Device, device, Silent, out, unasked, idle, afterWrite, effect, Gives, AllOut}
+use Rattle.qspi_calls.proofs.Phases.{words}
+use Rattle.power_cut.proofs.Driver.{Phase, draining, dropping, opening, lowering, switching, sending, starting, releasing, waiting, again, taking, closing, raising, leaving, midway, action, sendNext, takeNext, phaseAfter, takenAfter, isLast, Stage, enables, programs, polls, clears, disables, transferOf, Ending, succeeded, failed, refuses, Driver, at, over, stateOf, Verdict, accepts, refusesWith, verdictOn, startOn, startNext, settled, stageAfter, driverAfter}
 use Rattle.power_cut.proofs.Fits.{Fit, Going, Good}
-use Rattle.power_cut.proofs.Watch.{Matches, m-read, m-write, flat, width, port-is, asked, asks-program, newest, newest-one}
+use Rattle.power_cut.proofs.Watch.{Matches, m-write, width, port-is, asked, asks-program, newest, newest-one}
 use Rattle.power_cut.proofs.Lands.{applied, applied-snoc}
-use Rattle.power_cut.proofs.Control.{join, Up, Down, Live, Ctl, c-drain, c-leave, Held, held, flashAfter, accessed, Says, goes-out, by-hand, ctl-map}
+use Rattle.power_cut.proofs.Control.{Up, Live, c-drain, c-leave, Held, held, flashAfter, accessed, Says, goes-out, by-hand, ctl-map}
 
 -- ---- the flash at each stage
 

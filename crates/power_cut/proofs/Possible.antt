@@ -1,39 +1,34 @@
 -- The premises of the power-cut statement can be met: for every call that is accepted throughout, and from every device at rest, there are
 -- replies and a trace on which the run ends with success. Assumes nothing.
-use mathlib.Core.Path.{_≡_, refl, ap, _∙_, sym}
-use mathlib.Core.Bool.{Bool, true, false, cond, _&&_, true≢false}
-use mathlib.Core.Option.{Option, none, some}
-use mathlib.Core.List.{List, [], _∷_, _++_, append-nil, append-assoc}
-use Prim.Native.Nat.{ℕ, zero, suc, _+_, _-_, _%_, _≤_, _<_, min}
+use mathlib.Core.Path.{_≡_, refl, ap, _∙_}
+use mathlib.Core.Bool.{Bool, true, false}
+use mathlib.Core.Option.{none, some}
+use mathlib.Core.List.{List, [], _∷_, _++_, append-nil}
+use Prim.Native.Nat.{ℕ, _+_, _-_, _%_, _≤_}
 use native.Mathlib.Omega.{arith}
-use lib.Dec.{ltb, eqb}
 use lib.ListN.{length}
 use lib.Seq.{append-snoc}
 use borrow.Author.Tests.{le-ltb, eq-eqb}
-use Rattle.zynq7000.specs.Access.{valueWord}
-use Rattle.zynq7000.specs.declared.qspi.Access.{Access}
-use Rattle.zynq7000.specs.declared.qspi.Access.the-variants as access
-use Rattle.qspi_script.specs.declared.Status.{Status}
-use Rattle.qspi_script.specs.declared.Status.the-variants.{Done, OutOfRange}
+use Rattle.qspi_script.specs.declared.Status.the-variants.{Done}
 use Rattle.qspi_calls.specs.Chunks.{Chunk, chunks, Among, here, there}
-use Rattle.qspi_calls.specs.Machine.{Want, reads, writes, nothing, State, want, next, statusIn, Result, noRoom, made, runs, called}
-use Rattle.qspi_calls.specs.Calls.{writePages}
+use Rattle.qspi_calls.specs.Machine.{begin}
+use Rattle.qspi_calls.specs.Calls.{zeros, writePages}
 use Rattle.qspi_calls.specs.Prompt.{repliesOf}
 use Rattle.qspi_calls.proofs.WireOrder.{AllBytes}
 use Rattle.qspi_calls.proofs.Pages.{within}
+use Rattle.qspi_calls.proofs.PromptLogs.{Plays, counting-logs}
 use Rattle.power_cut.specs.Flash.{Array, programmed, programming, Flash, flash, busy, commandOf, obey, execute, settles}
-use Rattle.power_cut.specs.Controller.{bytesOut, Device, device, idle, AllOut, Trace, Rests, rests}
+use Rattle.power_cut.specs.Controller.{bytesOut, Device, device, idle, Rests, rests}
 use Rattle.power_cut.specs.Statement.{total}
 use Rattle.power_cut.specs.Witness.{Accepted, Succeeds}
-use Rattle.power_cut.proofs.Driver.{draining, words, Stage, enables, programs, polls, transferOf, thenOf, succeeded, refuses, Driver, at, over, stateOf, Verdict, accepts, judge, verdictOn, startOn, startNext, stageAfter, driverStart, begin-stage, start-is}
+use Rattle.power_cut.proofs.Driver.{draining, Stage, enables, programs, polls, transferOf, thenOf, succeeded, Driver, at, over, stateOf, accepts, verdictOn, startOn, startNext, stageAfter, driverStart, begin-stage, start-is}
 use Rattle.power_cut.proofs.Fits.{Sound, Fit, AllSound, fit, chunks-sound}
 use Rattle.power_cut.proofs.Lands.{applied}
-use Rattle.power_cut.proofs.Watch.{Matches, m-read, m-write, width, port-is, asked, asks-program}
+use Rattle.power_cut.proofs.Watch.{width, port-is, asked, asks-program}
 use Rattle.power_cut.proofs.Control.{Up}
 use Rattle.power_cut.proofs.OnDevice.{replies-few}
-use Rattle.power_cut.proofs.Theorem.{Follows, after}
-use Rattle.power_cut.proofs.Theorem as theorem
-use Rattle.power_cut.proofs.Ways.{Leads, on, nowhere, silently, zeros, Through, through}
+use Rattle.power_cut.proofs.Levels.{both-set}
+use Rattle.power_cut.proofs.Ways.{Leads, on, nowhere, silently, through}
 
 -- ---- one stage, one chunk, all chunks
 
@@ -116,32 +111,9 @@ chunks-accepted a bs h y = all-accepted (chunks a bs) (chunks-sound a bs h) (y .
 
 -- ---- the run over the replies of such a way
 
-record Runs (s : State) (l : List Access) (r : Result) : Type 0 where
-  log : r .log ≡ l
-  answer : r .answer ≡ statusIn (after s l)
-
-more-runs : (w : Want) (s : State) (a : Access) (l : List Access) (n : ℕ) (more : List ℕ) → Matches w a → Runs (next s (valueWord a)) l (runs n (next s (valueWord a)) (repliesOf l ++ more))
-    → Runs s (a ∷ l) (made w s n (repliesOf (a ∷ l) ++ more) (runs n))
-more-runs (reads o) s (access.Read p v) l n more m-read y = record { log = ap (λ (z : List Access). access.Read o v ∷ z) (y .log); answer = y .answer }
-more-runs (writes o v) s (access.Write p u) l n more m-write y = record { log = ap (λ (z : List Access). access.Write o v ∷ z) (y .log); answer = y .answer }
-
-over-runs : (n : ℕ) (s : State) (more : List ℕ) → want s ≡ nothing → Runs s [] (runs n s more)
-unfolding runs
-over-runs zero s more e = rw e (record { log = refl; answer = refl })
-over-runs (suc n) s more e = rw e (record { log = refl; answer = refl })
-
-follows-runs : (l : List Access) (s : State) (room : ℕ) (more : List ℕ) → Follows s l → want (after s l) ≡ nothing → length l ≤ room → Runs s l (runs room s (repliesOf l ++ more))
-unfolding runs
-follows-runs [] s room more f e h = over-runs room s more e
-follows-runs (a ∷ l) s zero more f e h = absurd (omega arith)
-follows-runs (a ∷ l) s (suc room) more f e h = more-runs (want s) s a l room more (f .0) (follows-runs l (next s (valueWord a)) room more (f .1) e (omega arith))
-
 start-accepted : (a : ℕ) (bs : List ℕ) → a + length bs ≤ 16777215 → driverStart a bs ≡ startNext (chunks a bs) []
 unfolding driverStart
 start-accepted a bs h = rw (le-ltb 16777215 (a + length bs) h)
-
-both-set : {a b : Bool} → a ≡ true → b ≡ true → (a && b) ≡ true
-both-set e f = rw (e, f)
 
 pub possible : (a : ℕ) (bs : List ℕ) → AllBytes bs → Accepted a bs → (old : Array) (before : Device) → Rests old before → Succeeds a bs before
 possible a bs h y old before (rests {c} {w} {r} {latch} u₁₀ u₁₄ u₁₅ u₁₆) =
@@ -149,14 +121,14 @@ possible a bs h y old before (rests {c} {w} {r} {latch} u₁₀ u₁₄ u₁₅ 
     let f = chunks-finish (chunks a bs) [] old latch c w r (chunks-accepted a bs h y) u in
     let x = f .reached in
     let l = x .leads .log in
-    let done : want (after (stateOf (startNext (chunks a bs) [])) l) ≡ nothing = rw (x .leads .way .ends) in
-    let status : statusIn (after (stateOf (startNext (chunks a bs) [])) l) ≡ Done = rw (x .leads .way .ends) in
-    let z : (room : ℕ) (more : List ℕ) → length l ≤ room → Runs (stateOf (startNext (chunks a bs) [])) l (runs room (stateOf (startNext (chunks a bs) [])) (repliesOf l ++ more)) =
-    λ room more i. follows-runs l (stateOf (startNext (chunks a bs) [])) room more (x .leads .way .follows) done i in
+    let begins : begin (writePages a bs) [] 0 ≡ stateOf (startNext (chunks a bs) []) = start-is a bs ∙ ap stateOf (start-accepted a bs (y .in-range)) in
+    let plays : Plays (begin (writePages a bs) [] 0) l (stateOf (over succeeded [] (chunks a bs))) = rw begins (x .leads .way .plays) in
+    let ran = counting-logs (writePages a bs) l Done [] [] (total (chunks a bs)) plays in
+    let room-is : (room : ℕ) → length l ≤ room → room ≡ length l + (room - length l) = λ room i. omega arith in
     record {
       replies = repliesOf l;
       accesses = length l;
       later = device (x .config) [] [] (x .wire) (x .left) (flash (applied (chunks a bs) old) (f .latch) none);
-      trace = λ room more i. rw (start-is a bs, start-accepted a bs (y .in-range), z room more i .log) (x .leads .way .trace);
-      success = λ room more i. rw (start-is a bs, start-accepted a bs (y .in-range)) (z room more i .answer ∙ status);
+      trace = λ room more i. rw (room-is room i, ran (room - length l) more .0) (x .leads .way .trace);
+      success = λ room more i. rw (room-is room i) (ran (room - length l) more .1);
     }

@@ -1,8 +1,8 @@
 -- What the run of `write_pages` promises, out of the tie of its start to its script. Assumes nothing.
-use mathlib.Core.Path.{_≡_, refl, ap, _∙_, sym}
-use mathlib.Core.List.{List, [], _∷_, _++_}
-use Prim.Native.Nat.{ℕ, zero, suc, _*_, _/_, _^_, _<_}
-use lib.ListN.{length, getD, take, drop}
+use mathlib.Core.Path.{_≡_, _∙_, sym}
+use mathlib.Core.List.{List, [], _∷_}
+use Prim.Native.Nat.{ℕ, suc, _*_, _/_, _^_, _<_}
+use lib.ListN.{length, getD, drop}
 use lib.Seq.{take-at}
 use Rattle.zynq7000.specs.Access.{encode}
 use Rattle.qspi_operation.specs.declared.Op.{Op}

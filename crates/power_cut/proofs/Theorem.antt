@@ -1,34 +1,32 @@
 -- The power-cut statement, proved of every run of `write_pages` over lists. Assumes nothing.
 use mathlib.Core.Path.{_≡_, refl, ap, _∙_, sym}
-use mathlib.Core.Bool.{Bool, true, false, cond, _&&_}
+use mathlib.Core.Bool.{Bool, true, false, cond}
 use mathlib.Core.Option.{Option, none, some}
-use mathlib.Core.Logic.{_⊎_, inl, inr}
+use mathlib.Core.Logic.{inl}
 use mathlib.Core.List.{List, [], _∷_, _++_, append-nil}
-use Prim.Native.Nat.{ℕ, zero, suc, _+_, _%_, _≤_, _<_}
+use Prim.Native.Nat.{ℕ, zero, suc, _+_, _<_}
 use native.Mathlib.Omega.{arith}
-use lib.Bits.{bitAnd}
 use lib.Dec.{ltb}
-use lib.ListN.{length, getD, take}
+use lib.ListN.{length, take}
 use Rattle.zynq7000.specs.Access.{valueWord}
-use Rattle.zynq7000.specs.Bits.{isSet}
 use Rattle.zynq7000.specs.declared.qspi.Access.{Access}
 use Rattle.zynq7000.specs.declared.qspi.Access.the-variants as access
-use Rattle.qspi_script.specs.declared.Status.{Status}
 use Rattle.qspi_script.specs.declared.Status.the-variants.{Done, OutOfRange}
 use Rattle.qspi_calls.specs.Chunks.{Chunk, chunks, Among}
-use Rattle.qspi_calls.specs.Machine.{Want, reads, writes, nothing, State, going, ended, begin, want, next, statusIn, countIn, Result, noRoom, made, runs, called}
+use Rattle.qspi_calls.specs.Machine.{Want, reads, writes, nothing, State, ended, want, next, statusIn, countIn, Result, noRoom, made, runs, called}
 use Rattle.qspi_calls.specs.Calls.{writePages}
 use Rattle.qspi_calls.proofs.WireOrder.{AllBytes}
 use Rattle.power_cut.specs.Flash.{Array, lands, Flash, flash, AfterCut}
-use Rattle.power_cut.specs.Controller.{high, manual, Device, device, flashOf, Silent, out, unasked, idle, effect, Gives, AllOut, Trace, still, quiet, step, Rests, rests}
+use Rattle.power_cut.specs.Controller.{high, Device, device, flashOf, Silent, out, unasked, idle, effect, AllOut, Trace, still, quiet, step, Rests, rests}
 use Rattle.power_cut.specs.Observer.{Seen, closed, seen, Observed, see, sees, fresh, observed}
 use Rattle.power_cut.specs.Statement.{In, total, NextOnly, no-doubt, the-next, Kept, PowerCut}
-use Rattle.power_cut.proofs.Driver.{Phase, isLast, Stage, enables, programs, polls, clears, disables, Ending, succeeded, failed, refuses, Driver, at, over, stateOf, startNext, driverAfter, driverStart, next-is, start-is}
+use Rattle.power_cut.proofs.Driver.{Phase, isLast, Stage, enables, programs, polls, clears, disables, succeeded, failed, refuses, Driver, at, over, stateOf, startNext, driverAfter, driverStart, next-is, start-is}
 use Rattle.power_cut.proofs.Fits.{Fit, AllFit, Going, Good, good-next, good-driver}
+use Rattle.power_cut.proofs.Levels.{both-set}
 use Rattle.power_cut.proofs.Watch.{Matches, m-read, m-write, view, view-start, watch}
 use Rattle.power_cut.proofs.Lands.{applied, lands-out, spared, beside, Ordered, applied-in, applied-out, chunks-ordered, chunks-total, ordered-front, ordered-seam}
 use Rattle.power_cut.proofs.Control.{Up, held}
-use Rattle.power_cut.proofs.OnDevice.{Calm, calm, Ready, ready, Works, under, past, FlashAt, Known, NotFailed, OnDevice, during, silent, begins, advance}
+use Rattle.power_cut.proofs.OnDevice.{Calm, calm, Ready, ready, Works, under, past, FlashAt, Known, OnDevice, during, silent, begins, advance}
 use Rattle.power_cut.proofs.OnDevice as on
 use Rattle.power_cut.proofs.Doubt.{upOf, doubtAt, doubtNow, start-doubt, showing, edge}
 
@@ -228,9 +226,6 @@ start-device a bs old {c} {w} {r} {latch} u = go (ltb 16777215 (a + length bs))
     go : (b : Bool) → OnDevice [] old (cond b (over (refuses OutOfRange) (chunks a bs) []) (startNext (chunks a bs) [])) (device c [] [] w r (flash old latch none))
     go true = on.ended tt u calm
     go false = begins [] old (chunks a bs) [] u calm
-
-both-set : {a b : Bool} → a ≡ true → b ≡ true → (a && b) ≡ true
-both-set e f = rw (e, f)
 
 cut-at : (a : ℕ) (bs : List ℕ) → AllBytes bs → (l : List Access) → Follows (stateOf (driverStart a bs)) l → {d e : Device} (old new : Array) → Rests old d → Trace AllOut d l e → AfterCut (flashOf e) new → Kept a bs old (observed l) new
 unfolding observed

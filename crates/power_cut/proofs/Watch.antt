@@ -3,9 +3,9 @@ use mathlib.Core.Path.{_≡_, refl, ap, _∙_, sym}
 use mathlib.Core.Bool.{Bool, true, false, not, _&&_, cond}
 use mathlib.Core.Option.{Option, none, some}
 use mathlib.Core.List.{List, [], _∷_, _++_, append-assoc, append-nil, reverse}
-use Prim.Native.Nat.{ℕ, zero, suc, _+_, _*_, _/_, _%_, _^_, _≤_, _<_}
+use Prim.Native.Nat.{ℕ, zero, suc, _+_, _/_, _%_, _^_, _≤_, _<_}
 use native.Mathlib.Omega.{arith}
-use lib.ListN.{length, take}
+use lib.ListN.{length}
 use Rattle.zynq7000.specs.Access.{valueWord}
 use Rattle.zynq7000.specs.Bits.{isSet}
 use Rattle.zynq7000.specs.declared.qspi.Access.{Access}
@@ -13,17 +13,16 @@ use Rattle.zynq7000.specs.declared.qspi.Access.the-variants as access
 use Rattle.zedboard_bsp.specs.Words.{bytesOf, topByte, addressBytes}
 use Rattle.qspi_transfer.specs.Wire.{waits}
 use Rattle.qspi_calls.specs.Chunks.{Chunk}
-use Rattle.qspi_calls.specs.Machine.{Want, reads, writes, nothing, State, want}
-use Rattle.qspi_calls.specs.Machine as machine
+use Rattle.qspi_calls.specs.Machine.{Want, reads, writes, want}
 use Rattle.qspi_calls.specs.Calls.{bytesOfAll, top}
 use Rattle.qspi_calls.proofs.WireOrder.{program-bytes}
-use Rattle.power_cut.specs.Flash.{Command, pageProgram, commandOf, programOf, addressOf}
-use Rattle.power_cut.specs.Flash as flash
-use Rattle.power_cut.specs.Controller.{Register, tx, registerAt, bytesOut, isStatusRead}
-use Rattle.power_cut.specs.Observer.{Transfer, closed, opened, Seen, also, named, commanded, isClean, enableWritten, seenWrite, seenRead, seen}
+use Rattle.power_cut.specs.Flash.{pageProgram, commandOf, programOf, addressOf}
+use Rattle.power_cut.specs.Controller.{tx, registerAt, bytesOut, isStatusRead}
+use Rattle.power_cut.specs.Observer.{Transfer, closed, opened, Seen, commanded, isClean, enableWritten, seenWrite, seenRead, seen}
 use Rattle.power_cut.specs.Observer as observer
-use Rattle.power_cut.proofs.Driver.{Phase, draining, dropping, opening, lowering, switching, sending, starting, releasing, waiting, again, taking, closing, raising, leaving, words, sendNext, takeNext, phaseAfter, takenAfter, isLast, Stage, enables, programs, polls, clears, disables, transferOf, Ending, succeeded, failed, refuses, Driver, at, over, stateOf, Verdict, accepts, refusesWith, verdictOn, startOn, startNext, settled, stageAfter, driverAfter}
-use Rattle.power_cut.proofs.Fits.{Fit, Taken, Going, Good}
+use Rattle.qspi_calls.proofs.Phases.{words}
+use Rattle.power_cut.proofs.Driver.{Phase, draining, dropping, opening, lowering, switching, sending, starting, releasing, waiting, again, taking, closing, raising, leaving, sendNext, takeNext, phaseAfter, Stage, enables, programs, polls, clears, disables, transferOf, Ending, succeeded, failed, refuses, Driver, at, over, stateOf, Verdict, accepts, refusesWith, verdictOn, startOn, startNext, settled, stageAfter, driverAfter}
+use Rattle.power_cut.proofs.Fits.{Fit, Going, Good}
 
 -- an access that was due
 pub data Matches : Want → Access → Type 0 where

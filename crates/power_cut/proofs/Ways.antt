@@ -1,57 +1,53 @@
 -- Ways that the list machine and the device can go together, and the way through one transfer: from any device at rest to the end of the
 -- transfer, with every word out at once and every reply 0. Assumes nothing.
 use mathlib.Core.Path.{_≡_, refl, ap, _∙_, sym}
-use mathlib.Core.Bool.{Bool, true, false, cond, _&&_, true≢false}
-use mathlib.Core.Option.{Option, none, some}
+use mathlib.Core.Bool.{Bool, true, false, true≢false}
 use mathlib.Core.List.{List, [], _∷_, _++_, map, reverse, append-nil, append-assoc}
-use Prim.Native.Nat.{ℕ, zero, suc, _+_, _-_, _%_, _≤_, _<_}
+use Prim.Native.Nat.{ℕ, zero, suc, _+_, _-_, _≤_}
 use native.Mathlib.Omega.{arith}
-use lib.ListN.{length, length-map, length-append}
+use lib.ListN.{length, length-map}
 use lib.Seq.{append-snoc}
 use Rattle.zynq7000.specs.Access.{valueWord}
-use Rattle.zynq7000.specs.Bits.{isSet, clear}
+use Rattle.zynq7000.specs.Bits.{clear}
 use Rattle.zynq7000.specs.declared.qspi.Access.{Access}
 use Rattle.zynq7000.specs.declared.qspi.Access.the-variants as access
 use Rattle.qspi_transfer.specs.LowLevel.{chipSelectHigh, chipSelectLow, started}
-use Rattle.qspi_script.specs.declared.Status.the-variants.{Done}
-use Rattle.qspi_calls.specs.Chunks.{Chunk, chunks}
-use Rattle.qspi_calls.specs.Machine.{Want, reads, writes, nothing, Transfer, Script, State, begin, want, next, statusIn, Result, made, runs, called}
-use Rattle.qspi_calls.specs.Calls.{writePages}
-use Rattle.power_cut.specs.Flash.{Array, Flash, flash, busy, execute, settles}
-use Rattle.power_cut.specs.Controller.{registerAt, tx, bytesOut, high, Device, device, Shows, Silent, out, idle, configured, afterRead, afterWrite, effect, GivenBy, Gives, AllOut, Trace, still, quiet, step, Rests, rests}
-use Rattle.power_cut.proofs.Driver.{Phase, draining, dropping, opening, lowering, switching, sending, starting, releasing, waiting, again, taking, closing, raising, leaving, words, sendNext, takeNext, phaseAfter, takenAfter, isLast, inTransfer, transfer-next}
+use Rattle.qspi_calls.specs.Machine.{Want, Transfer, Script, State, begin, want, next}
+use Rattle.qspi_calls.specs.Calls.{zeros}
+use Rattle.qspi_calls.proofs.PromptLogs.{Plays, plays-none, plays-read, plays-write, plays-then}
+use Rattle.power_cut.specs.Flash.{Flash, busy, execute}
+use Rattle.power_cut.specs.Controller.{registerAt, tx, bytesOut, high, Device, device, Shows, Silent, out, configured, afterRead, afterWrite, effect, GivenBy, Gives, AllOut, Trace, still, quiet, step}
+use Rattle.qspi_calls.proofs.Phases.{words}
+use Rattle.power_cut.proofs.Driver.{Phase, draining, dropping, opening, lowering, switching, sending, starting, releasing, waiting, again, taking, closing, raising, leaving, sendNext, takeNext, phaseAfter, inTransfer, transfer-next}
 use Rattle.power_cut.proofs.Levels.{high-put, high-clear, high-start, starts-put, starts-high, starts-low}
 use Rattle.power_cut.proofs.Watch.{Matches, m-read, m-write, flat}
 use Rattle.power_cut.proofs.Control.{join, join-map, map-snoc, Up, Down, down-low, down-start, up-high}
-use Rattle.power_cut.proofs.Theorem.{Follows, after}
 
 -- ---- ways of machine and device together
 
+-- the machine makes these accesses, and they are a trace of the device
 pub record Way (s : State) (d : Device) (l : List Access) (t : State) (e : Device) : Type 0 where
-  pub follows : Follows s l
-  pub ends : after s l ≡ t
+  pub plays : Plays s l t
   pub trace : Trace AllOut d l e
-
-follows-append : (s : State) (l m : List Access) → Follows s l → Follows (after s l) m → Follows s (l ++ m)
-follows-append s [] m f g = g
-follows-append s (a ∷ l) m f g = (f .0, follows-append (next s (valueWord a)) l m (f .1) g)
-
-after-append : (s : State) (l m : List Access) → after s (l ++ m) ≡ after (after s l) m
-after-append s [] m = refl
-after-append s (a ∷ l) m = after-append (next s (valueWord a)) l m
 
 trace-append : {d e g : Device} {l m : List Access} → Trace AllOut d l e → Trace AllOut e m g → Trace AllOut d (l ++ m) g
 trace-append still u = u
 trace-append (quiet s t) u = quiet s (trace-append t u)
 trace-append (step i o t) u = step i o (trace-append t u)
 
-pub then : {s t u : State} {d e g : Device} {l m : List Access} → Way s d l t e → Way t e m u g → Way s d (l ++ m) u g
-then {s} {t} {u} {d} {e} {g} {l} {m} x y =
-    let f : Follows (after s l) m = rw (x .ends) (y .follows) in
-    record { follows = follows-append s l m (x .follows) f; ends = after-append s l m ∙ ap (λ (z : State). after z m) (x .ends) ∙ y .ends; trace = trace-append (x .trace) (y .trace) }
+then : {s t u : State} {d e g : Device} {l m : List Access} → Way s d l t e → Way t e m u g → Way s d (l ++ m) u g
+then x y = record { plays = plays-then (x .plays) (y .plays); trace = trace-append (x .trace) (y .trace) }
+
+there : {s t : State} → s ≡ t → Plays s [] t
+there e = rw e plays-none
+
+-- one access that was due
+plays-one : {s t : State} {w : Want} {a : Access} → want s ≡ w → Matches w a → next s (valueWord a) ≡ t → Plays s (a ∷ []) t
+plays-one e m-read f = plays-read e (there f)
+plays-one e m-write f = plays-write e (there f)
 
 one : {s t : State} {d : Device} (a : Access) → Matches (want s) a → Gives d a → AllOut d a → next s (valueWord a) ≡ t → Way s d (a ∷ []) t (effect d a)
-one a m g o e = record { follows = (m, tt); ends = e; trace = step g o still }
+one a m g o e = record { plays = plays-one refl m e; trace = step g o still }
 
 -- somewhere from here, to a state and a device
 pub record Leads (s : State) (d : Device) (t : State) (e : Device) : Type 0 where
@@ -65,16 +61,12 @@ by : {s t : State} {d : Device} (a : Access) → Matches (want s) a → Gives d 
 by a m g o e = record { log = a ∷ []; way = one a m g o e }
 
 pub silently : {s t : State} {d e g : Device} → Silent d e → Leads s e t g → Leads s d t g
-silently z x = record { log = x .log; way = record { follows = x .way .follows; ends = x .way .ends; trace = quiet z (x .way .trace) } }
+silently z x = record { log = x .log; way = record { plays = x .way .plays; trace = quiet z (x .way .trace) } }
 
 pub nowhere : {s : State} {d : Device} → Leads s d s d
-nowhere = record { log = []; way = record { follows = tt; ends = refl; trace = still } }
+nowhere = record { log = []; way = record { plays = plays-none; trace = still } }
 
 -- ---- one transfer
-
-abbrev pub zeros : ℕ → List ℕ
-zeros zero = []
-zeros (suc n) = 0 ∷ zeros n
 
 zeros-snoc : (n : ℕ) → zeros n ++ 0 ∷ [] ≡ zeros (suc n)
 zeros-snoc zero = refl

@@ -1,19 +1,17 @@
 -- Drivers that the power-cut statement excludes, each by a run on a device that meets the premises: no write enable, no page check, a busy
 -- status taken for done, bytes counted before their status is clean. Assumes nothing.
-use mathlib.Core.Path.{_≡_, refl, _∙_, sym}
-use mathlib.Core.Bool.{Bool, true, false, true≢false}
-use mathlib.Core.Option.{Option, none, some}
-use mathlib.Core.List.{List, [], _∷_, _++_}
-use Prim.Native.Nat.{ℕ, zero, suc, _≤_, _<_}
+use mathlib.Core.Path.{_≡_, refl}
+use mathlib.Core.Bool.{false}
+use mathlib.Core.Option.{none}
+use mathlib.Core.List.{List, [], _∷_}
+use Prim.Native.Nat.{ℕ}
 use native.Mathlib.Omega.{arith}
-use lib.ListN.{length}
-use Rattle.zynq7000.specs.declared.qspi.Access.{Access}
 use Rattle.zynq7000.specs.declared.qspi.Access.the-variants as access
 use Rattle.qspi_script.specs.declared.Status.the-variants.{Done, ProgrammingErrorBitSet}
 use Rattle.qspi_calls.specs.Chunks.{Chunk, Among, here}
-use Rattle.qspi_calls.specs.Machine.{Script, ends, counts, exchange, Result, runs, called}
+use Rattle.qspi_calls.specs.Machine.{ends, counts, exchange, Result, runs, called}
 use Rattle.qspi_calls.specs.Calls.{enabling, statusReading, programming, settling, working}
-use Rattle.power_cut.specs.Flash.{Array, Flash, flash, programOf, eraseOf, commandOf, byteAddress, landsFrom, lands, programmed, obey, execute, settles, AfterCut}
+use Rattle.power_cut.specs.Flash.{flash, programOf, eraseOf, commandOf, byteAddress, landsFrom, lands, programmed, obey, execute, settles, AfterCut}
 use Rattle.power_cut.specs.Controller.{registerAt, bytesOut, isStatusRead, Device, device, flashOf, out, idle, configured, afterWrite, afterRead, effect, GivenBy, Gives, AllOut, Trace, still, quiet, step, rests}
 use Rattle.power_cut.specs.Observer.{isClean, closing, enableWritten, seenWrite, seenRead, seen, raised, doubtEnable, doubtAfter, see, sees, observed}
 use Rattle.power_cut.specs.Statement.{total, Kept}

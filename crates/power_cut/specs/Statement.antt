@@ -1,5 +1,5 @@
 -- The power-cut statement: demand 3 of the request, in the terms of document 01. docs/ARCHITECTURE.md, "How to read the power-cut statement".
-use Prim.Native.Nat.{ℕ, zero, suc, _+_, _%_, _≤_, _<_}
+use Prim.Native.Nat.{ℕ, _+_, _%_, _≤_, _<_}
 use mathlib.Core.Path.{_≡_}
 use mathlib.Core.Option.{Option, none, some}
 use mathlib.Core.List.{List, [], _∷_, _++_}
@@ -9,7 +9,7 @@ use Rattle.zynq7000.specs.declared.qspi.Access.{Access}
 use Rattle.qspi_script.specs.declared.Status.{Status}
 use Rattle.qspi_script.specs.declared.Status.the-variants.{Done}
 use Rattle.qspi_calls.specs.Chunks.{Chunk, chunks, Among}
-use Rattle.power_cut.specs.Flash.{Array, Flash, AfterCut}
+use Rattle.power_cut.specs.Flash.{Array, AfterCut}
 use Rattle.power_cut.specs.Controller.{Device, flashOf, AllOut, Trace, Rests}
 use Rattle.power_cut.specs.Observer.{Observed, observed}
 

@@ -1,13 +1,11 @@
 -- The premises of the laws of `write_pages` can be met: four bytes at 000100 are accepted and have a plain log, and of 132 bytes the first chunk
 -- is not the last. Assumes nothing.
-use mathlib.Core.Path.{_≡_, refl}
-use mathlib.Core.Bool.{true, false}
+use mathlib.Core.Path.{refl}
 use mathlib.Core.List.{List, [], _∷_, _++_}
-use Prim.Native.Nat.{ℕ, zero, suc, _+_, _≤_, _<_}
+use Prim.Native.Nat.{ℕ, _+_, _≤_}
 use native.Mathlib.Omega.{arith}
 use lib.ListN.{length, take}
-use Rattle.zynq7000.specs.declared.qspi.Access.{Access}
-use Rattle.qspi_calls.specs.Chunks.{Chunk, chunksIn, chunks, Among, here}
+use Rattle.qspi_calls.specs.Chunks.{chunksIn, chunks, Among, here}
 use Rattle.qspi_calls.specs.Calls.{enabling, statusReading, programming, zeros}
 use Rattle.qspi_calls.specs.Prompt.{Prompt, promptly}
 use Rattle.qspi_calls.proofs.Pages.{NotLast, next}

@@ -30,12 +30,12 @@ use Rattle.qspi_calls.specs.Calls.{enabling, statusReading, top, done}
 use Rattle.qspi_calls.specs.Prompt.{Prompt, taking, closing, replying, promptly, repliesOf}
 
 -- a call makes these accesses and stands there afterwards
-data Plays : State → List Access → State → Type 0 where
+pub data Plays : State → List Access → State → Type 0 where
   plays-none : {s : State} → Plays s [] s
   plays-read : {s t : State} {o v : ℕ} {l : List Access} → want s ≡ reads o → Plays (next s v) l t → Plays s (Read o v ∷ l) t
   plays-write : {s t : State} {o v : ℕ} {l : List Access} → want s ≡ writes o v → Plays (next s v) l t → Plays s (Write o v ∷ l) t
 
-plays-then : {s t u : State} {l m : List Access} → Plays s l t → Plays t m u → Plays s (l ++ m) u
+pub plays-then : {s t u : State} {l m : List Access} → Plays s l t → Plays t m u → Plays s (l ++ m) u
 plays-then plays-none q = q
 plays-then (plays-read e p) q = plays-read e (plays-then p q)
 plays-then (plays-write e p) q = plays-write e (plays-then p q)
@@ -99,7 +99,7 @@ module _ (a : Prompt) (brings : List ℕ → List ℕ) (k : List ℕ → Script)
 -- ---- calls
 
 -- the log, the answer, and how many replies are used, where there is room and replies enough
-abbrev Logs : Script → List Access → Status → Type 0
+abbrev pub Logs : Script → List Access → Status → Type 0
 Logs c l s = (m : ℕ) (rest : List ℕ) → (called c (length l + m) (repliesOf l ++ rest) .log ≡ l) × (called c (length l + m) (repliesOf l ++ rest) .answer ≡ s)
 
 over-runs : (m : ℕ) (s : Status) (vs bs : List ℕ) (n : ℕ) (rest : List ℕ) → (runs m (ended s vs bs n) rest .log ≡ []) × (runs m (ended s vs bs n) rest .answer ≡ s)
@@ -107,7 +107,7 @@ unfolding runs
 over-runs zero s vs bs n rest = (refl, refl)
 over-runs (suc m) s vs bs n rest = (refl, refl)
 
-counting-logs : (c : Script) (l : List Access) (s : Status) (vs bs : List ℕ) (n : ℕ) → Plays (begin c [] 0) l (ended s vs bs n) → Logs c l s
+pub counting-logs : (c : Script) (l : List Access) (s : Status) (vs bs : List ℕ) (n : ℕ) → Plays (begin c [] 0) l (ended s vs bs n) → Logs c l s
 counting-logs c l s vs bs n p m rest =
     let h = plays-run l m rest p in
     let g = over-runs m s vs bs n rest in

@@ -139,8 +139,12 @@ eraseSector a log =
     pick (ltb 16777215 (a + 65536)) (over (erasingJob a log) status.OutOfRange)
     (pick (eqb (a % 65536) 0) (going (erasingJob a log) (placeAt stage.Enable 0 0 0)) (over (erasingJob a log) status.Alignment))
 
+-- a job of page programs: one of them, or the chunks of `write_pages`
+abbrev pub programsJob : Bool → ℕ → ℕ → ℕ → Job
+programsJob pages a n log = workingJob stage.Program false pages status.ProgrammingErrorBitSet a n log
+
 abbrev pub programmingJob : ℕ → ℕ → ℕ → Job
-programmingJob a n log = workingJob stage.Program false false status.ProgrammingErrorBitSet a n log
+programmingJob a n log = programsJob false a n log
 
 abbrev pub programOf : ℕ → ℕ → ℕ → Op
 programOf a n log =
@@ -155,7 +159,7 @@ abbrev pub opened : Job → Turned → Op
 opened job t = record { job = job; place = t .place; wire = freshWire phase.DrainStatus; used = 0; replies = 0; status = t .status }
 
 abbrev pub pagingJob : ℕ → ℕ → ℕ → Job
-pagingJob a n log = workingJob stage.Program false true status.ProgrammingErrorBitSet a n log
+pagingJob a n log = programsJob true a n log
 
 -- "`write_pages` gives 1 on the whole length first, then cuts into 128 bytes and calls program"
 abbrev pub writePagesOf : ℕ → ℕ → ℕ → Op

@@ -373,18 +373,25 @@ pub fn erase_sector(addr: u32, log: usize) -> Op
     going(job, place(Stage::Enable, 0, 0, 0))
 }
 
-pub fn program(addr: u32, data: usize, log: usize) -> Op
-    ensures start { λ r. ⌜ r ≡ spec.programOf addr «data» log ⌝ }
+// Page programs: one of them, or the chunks of `write_pages`.
+fn programming(paging: bool, addr: u32, data: usize, log: usize) -> Job
+    ensures job { λ r. ⌜ r ≡ spec.programsJob paging addr «data» log ⌝ }
 {
-    let job = working(
+    working(
         Stage::Program,
         false,
-        false,
+        paging,
         Status::ProgrammingErrorBitSet,
         addr,
         data,
         log,
-    );
+    )
+}
+
+pub fn program(addr: u32, data: usize, log: usize) -> Op
+    ensures start { λ r. ⌜ r ≡ spec.programOf addr «data» log ⌝ }
+{
+    let job = programming(false, addr, data, log);
     if out_of_range(addr, data) {
         return over(job, Status::OutOfRange);
     }
@@ -421,15 +428,7 @@ fn opened(job: Job, turned: Turned) -> Op
 pub fn write_pages(addr: u32, data: usize, log: usize) -> Op
     ensures start { λ r. ⌜ r ≡ spec.writePagesOf addr «data» log ⌝ }
 {
-    let job = working(
-        Stage::Program,
-        false,
-        true,
-        Status::ProgrammingErrorBitSet,
-        addr,
-        data,
-        log,
-    );
+    let job = programming(true, addr, data, log);
     if out_of_range(addr, data) {
         return over(job, Status::OutOfRange);
     }

@@ -8,12 +8,12 @@ use Rattle.qspi_calls.proofs.start.opened.Reads as opened-reads
 use Rattle.qspi_calls.proofs.start.out_of_range.Reads as out-of-range-reads
 use Rattle.qspi_calls.proofs.start.over.Reads as over-reads
 use Rattle.qspi_calls.proofs.start.place.Reads as place-reads
-use Rattle.qspi_calls.proofs.start.working.Reads as working-reads
+use Rattle.qspi_calls.proofs.start.programming.Reads as programming-reads
 use Rattle.qspi_script.proofs.next_page.Reads as next-page-reads
 
 -- src/start.rt:424:9
-working-requires : tie.Need-working-requires
-working-requires c κs = search needs
+programming-requires : tie.Need-programming-requires
+programming-requires c κs = search needs
 
 -- src/start.rt:433:8
 out-of-range-requires : tie.Need-out-of-range-requires
@@ -25,7 +25,7 @@ over-requires c κs = search needs
 
 -- src/start.rt:434:9
 returns : tie.Need-returns
-returns c = simp (c .over .ensures, c .before .if1 .taken, ← c .before .before .out-of-range .ensures, c .before .before .before .working .ensures)
+returns c = simp (c .over .ensures, c .before .if1 .taken, ← c .before .before .out-of-range .ensures, c .before .before .before .programming .ensures)
 
 -- src/start.rt:436:45
 place-requires : tie.Need-place-requires
@@ -41,13 +41,13 @@ opened-requires c κs = search needs
 
 -- src/start.rt:421:1
 returns-2 : tie.Need-returns-2
-returns-2 c = simp (c .opened .ensures, c .before .next-page .ensures, c .before .before .place .ensures, c .before .before .before .if1 .left, ← c .before .before .before .before .out-of-range .ensures, c .before .before .before .before .before .working .ensures)
+returns-2 c = simp (c .opened .ensures, c .before .next-page .ensures, c .before .before .place .ensures, c .before .before .before .if1 .left, ← c .before .before .before .before .out-of-range .ensures, c .before .before .before .before .before .programming .ensures)
 
 pub write-pages-spec : {M : Type 1} → statement M
 write-pages-spec =
     tie.close
     (tie.spec
-    working-requires
+    programming-requires
     out-of-range-requires
     over-requires
     returns
