@@ -4,12 +4,14 @@ ghost use mathlib.Core.Path.{_≡_};
 ghost use Prim.Native.Nat.{_+_, _≤_};
 ghost use lib.Dec.{leb};
 ghost use lib.ListN.{length};
+ghost use Rattle.qspi_script.specs.Stages.{frameOf};
 ghost use Rattle.qspi_operation.specs.Step.{isGoing, registerAccess, sendAccess, turnedOn, wentOn, accessOf, shown, dueOf, answered, sameLengths, going, verdictOf, stopped, counted, moved, written, replyOf, stepOf, logOf, bufferOf, programmedOf};
 ghost use Rattle.qspi_operation.specs.Run.{runOf, Ran};
 use qspi_script::Job;
 use qspi_script::Place;
 use qspi_script::Status;
 use qspi_transfer::Due;
+use qspi_transfer::Frame;
 use qspi_transfer::Moved;
 use qspi_transfer::Phase;
 use qspi_transfer::Wire;
@@ -240,9 +242,17 @@ fn judged(op: Op, data: &[u8], buffer: usize, room: usize, replies: &[u32], at: 
     }
 }
 
+// No access was made, and the operation stays as it is.
+fn unmoved(op: Op, answer: Status, frame: Frame) -> Framed
+    ensures stepped { λ r. ⌜ r ≡ record { stepped = record { op = op; answer = answer }; frame = frame } ⌝ }
+{
+    let stepped = Stepped { op, answer };
+    Framed { stepped, frame }
+}
+
 // Ended without an access.
-fn stop(op: Op, status: Status) -> Stepped
-    ensures stepped { λ r. ⌜ r ≡ stopped op status ⌝ }
+fn stop(op: Op, status: Status, frame: Frame) -> Framed
+    ensures stepped { λ r. ⌜ r ≡ record { stepped = stopped op status; frame = frame } ⌝ }
 {
     let job = op.job;
     let place = op.place;
@@ -255,10 +265,7 @@ fn stop(op: Op, status: Status) -> Stepped
         replies: op.replies,
         status,
     };
-    Stepped {
-        op: ended,
-        answer: status,
-    }
+    unmoved(ended, status, frame)
 }
 
 // The next transfer begins; after the last one the replies stay for the answer.
@@ -320,14 +327,33 @@ fn went_on(op: Op, wire: Wire, used: usize, replies: usize) -> Stepped
     }
 }
 
+// A step with the size of the transfer that is then at hand: a run carries it from step to step, since
+// only a turn changes it.
+struct Framed {
+    stepped: Stepped,
+    frame: Frame,
+}
+
+fn with_frame(s: Stepped) -> Framed
+    ensures framed { λ r. ⌜ (r .stepped ≡ s) × (r .frame ≡ frameOf (s .op .job) (s .op .place)) ⌝ }
+{
+    let op = s.op;
+    let frame = qspi_script::frame(op.job, op.place);
+    Framed { stepped: s, frame }
+}
+
 // After an access of a value, with the new used counts.
-fn went(op: Op, used: usize, replies: usize, value: u32) -> Stepped
-    ensures stepped { λ r. ⌜ r ≡ moved op used replies value ⌝ }
+fn went(op: Op, frame: Frame, used: usize, replies: usize, value: u32) -> Framed
+    requires { ⌜ frame ≡ frameOf (op .job) (op .place) ⌝ }
+    ensures stepped { λ r. ⌜ (r .stepped ≡ moved op used replies value) × (r .frame ≡ frameOf (r .stepped .op .job) (r .stepped .op .place)) ⌝ }
 {
     let wire = op.wire;
-    match qspi_transfer::advance(wire, qspi_script::frame(op.job, op.place), value) {
-        Moved::On(next) => went_on(op, next, used, replies),
-        Moved::Over => turned(op, used, replies),
+    match qspi_transfer::advance(wire, frame, value) {
+        Moved::On(next) => {
+            let stepped = went_on(op, next, used, replies);
+            Framed { stepped, frame }
+        }
+        Moved::Over => with_frame(turned(op, used, replies)),
     }
 }
 
@@ -351,6 +377,36 @@ fn put(log: &mut [u32], at: usize, first: u32, value: u32)
     log[at + 1] = value;
 }
 
+// One step of an operation whose frame is at hand.
+fn step_framed(
+    op: Op,
+    frame: Frame,
+    data: &[u8],
+    buffer: &mut [u8],
+    log: &mut [u32],
+    replies: &[u32],
+    at: usize,
+) -> Framed
+    requires { ⌜ frame ≡ frameOf (op .job) (op .place) ⌝ }
+    ensures state { λ r. ⌜ (r .stepped ≡ stepOf op (now («data» .entry)) (length (now (buffer .entry))) (length (now (log .entry))) (replyOf (now (replies .entry)) at)) × (r .frame ≡ frameOf (r .stepped .op .job) (r .stepped .op .place)) ⌝ }
+    ensures logged { λ r. ⌜ now (log .exit) ≡ logOf op (now («data» .entry)) (length (now (buffer .entry))) (now (log .entry)) (replyOf (now (replies .entry)) at) ⌝ }
+    ensures stored { λ r. ⌜ now (buffer .exit) ≡ bufferOf op (now («data» .entry)) (now (buffer .entry)) (length (now (log .entry))) (replyOf (now (replies .entry)) at) ⌝ }
+{
+    let used = op.used;
+    let status = op.status;
+    match judged(op, data, buffer.len(), log.len(), replies, at) {
+        Verdict::Ended => unmoved(op, status, frame),
+        Verdict::Changed => unmoved(op, Status::LentLengthChanged, frame),
+        Verdict::Full => stop(op, Status::LogFull, frame),
+        Verdict::Dry => stop(op, Status::RepliesEnded, frame),
+        Verdict::Made(first, value, read) => {
+            put(log, used, first, value);
+            store::store(buffer, op.job, op.place, op.wire, value);
+            went(op, frame, used + 2, count(read, op.replies), value)
+        }
+    }
+}
+
 // One step of an operation, where the reply is the one at a place of the replies.
 pub fn step_at(
     op: Op,
@@ -364,22 +420,9 @@ pub fn step_at(
     ensures logged { λ r. ⌜ now (log .exit) ≡ logOf op (now («data» .entry)) (length (now (buffer .entry))) (now (log .entry)) (replyOf (now (replies .entry)) at) ⌝ }
     ensures stored { λ r. ⌜ now (buffer .exit) ≡ bufferOf op (now («data» .entry)) (now (buffer .entry)) (length (now (log .entry))) (replyOf (now (replies .entry)) at) ⌝ }
 {
-    let used = op.used;
-    let status = op.status;
-    match judged(op, data, buffer.len(), log.len(), replies, at) {
-        Verdict::Ended => Stepped { op, answer: status },
-        Verdict::Changed => Stepped {
-            op,
-            answer: Status::LentLengthChanged,
-        },
-        Verdict::Full => stop(op, Status::LogFull),
-        Verdict::Dry => stop(op, Status::RepliesEnded),
-        Verdict::Made(first, value, read) => {
-            put(log, used, first, value);
-            store::store(buffer, op.job, op.place, op.wire, value);
-            went(op, used + 2, count(read, op.replies), value)
-        }
-    }
+    let frame = qspi_script::frame(op.job, op.place);
+    let f = step_framed(op, frame, data, buffer, log, replies, at);
+    f.stepped
 }
 
 // One step of an operation.
@@ -404,14 +447,69 @@ pub fn step(op: Op, data: &[u8], buffer: &mut [u8], log: &mut [u32], reply: Repl
 pub fn run(op: Op, data: &[u8], buffer: &mut [u8], log: &mut [u32], replies: &[u32]) -> Stepped
     ensures ran { λ r. ⌜ Ran r (now (buffer .exit)) (now (log .exit)) (runOf op (now («data» .entry)) (now (replies .entry)) (now (buffer .entry)) (now (log .entry))) ⌝ }
 {
-    let mut o = op;
+    // Steps do not change the job, so the loop does not carry it round.
+    let job = op.job;
+    let mut place = op.place;
+    let mut wire = op.wire;
+    let mut used = op.used;
+    let mut taken = op.replies;
+    let mut status = op.status;
     let mut answer = op.status;
+    let mut frame = qspi_script::frame(job, place);
     while is_going(answer) {
-        let s = step_at(o, data, buffer, log, replies, o.replies);
-        o = s.op;
+        let o = Op {
+            job,
+            place,
+            wire,
+            used,
+            replies: taken,
+            status: answer,
+        };
+        let f = step_framed(o, frame, data, buffer, log, replies, taken);
+        let s = f.stepped;
+        let next = s.op;
+        // Field by field: a struct that is copied whole takes its padding round the loop.
+        let p = next.place;
+        let w = next.wire;
+        let size = f.frame;
+        let stage = p.stage;
+        let phase = w.phase;
+        place = Place {
+            stage,
+            done: p.done,
+            chunk: p.chunk,
+            sr: p.sr,
+            cr: p.cr,
+        };
+        wire = Wire {
+            phase,
+            config: w.config,
+            sent: w.sent,
+            read_index: w.read_index,
+            older: w.older,
+            old: w.old,
+            last: w.last,
+        };
+        frame = Frame {
+            port: size.port,
+            words: size.words,
+            bytes: size.bytes,
+            twice: size.twice,
+        };
+        used = next.used;
+        taken = next.replies;
+        status = next.status;
         answer = s.answer;
     }
-    Stepped { op: o, answer }
+    let end = Op {
+        job,
+        place,
+        wire,
+        used,
+        replies: taken,
+        status,
+    };
+    Stepped { op: end, answer }
 }
 
 // The bytes that the answer of `write_pages` counts: those of the chunks that ended clean.

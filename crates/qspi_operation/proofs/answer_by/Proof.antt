@@ -1,5 +1,5 @@
 -- Each arm is the definition's clause for its case. Assumes nothing.
-use borrow.Author.Tests.{lt-ltb, le-ltb, le-leb, lt-leb, eq-eqb, ne-eqb}
+use borrow.Author.Tests.{lt-ltb, le-ltb}
 use borrow.Author.Needs.{needs}
 use Rattle.qspi_operation.proofs.answer_by.Statement.{statement}
 use Rattle.qspi_operation.proofs.answer_by.Tie as tie

@@ -1,5 +1,4 @@
 -- By what the functions called promise. Assumes nothing.
-use borrow.Author.Tests.{lt-ltb, le-ltb, le-leb, lt-leb, eq-eqb, ne-eqb}
 use borrow.Author.Needs.{needs}
 use Rattle.qspi_operation.proofs.send.Statement.{statement}
 use Rattle.qspi_operation.proofs.send.Tie as tie

@@ -1,5 +1,4 @@
 -- Each branch is the definition's, by the tests taken on the way. Assumes nothing.
-use borrow.Author.Tests.{lt-ltb, le-ltb, le-leb, lt-leb, eq-eqb, ne-eqb}
 use borrow.Author.Needs.{needs}
 use Rattle.qspi_operation.proofs.turned.Statement.{statement}
 use Rattle.qspi_operation.proofs.turned.Tie as tie

@@ -1,0 +1,29 @@
+-- The numbers are those of what the run promises. Assumes nothing.
+use Rattle.qspi_abi.proofs.Outputs as outputs
+use borrow.Author.Needs.{needs}
+use Rattle.qspi_abi.proofs.qspi_write_disable.Statement.{statement}
+use Rattle.qspi_abi.proofs.qspi_write_disable.Tie as tie
+use Rattle.qspi_abi.proofs.qspi_write_disable.Reads as reads
+use Rattle.qspi_abi.proofs.qspi_write_disable.Lts as lts
+use Rattle.qspi_abi.proofs.ran_out.Reads as ran-out-reads
+use Rattle.qspi_runs.proofs.write_disable.Reads as write-disable-reads
+
+-- src/lib.rt:408:13
+write-disable-requires : tie.Need-write-disable-requires
+write-disable-requires c κs = search needs
+
+-- src/lib.rt:408:5
+ran-out-requires : tie.Need-ran-out-requires
+ran-out-requires c κs = search needs
+
+-- src/lib.rt:403:1
+same-length : tie.Need-same-length
+same-length c = search needs
+
+-- src/lib.rt:403:1
+returns : tie.Need-returns
+returns c = (outputs.plain (c .ran-out .ensures) (c .before .before .before .write-disable .ensures .0), c .before .before .before .write-disable .ensures .1)
+
+pub qspi-write-disable-spec : {M : Type 1} → statement M
+qspi-write-disable-spec =
+    tie.close (tie.spec write-disable-requires ran-out-requires same-length returns)

@@ -1,0 +1,14 @@
+-- The power-cut statement of the exported `write_pages`.
+use Prim.Native.Nat.{ℕ}
+use mathlib.Core.Path.{_≡_}
+use mathlib.Core.List.{List}
+use Rattle.power_cut.specs.Promise.{Saved}
+use Rattle.power_cut.specs.declared.PagesRan.{PagesRan}
+use Rattle.qspi_abi.specs.Numbers.{pages}
+use Rattle.qspi_abi.specs.declared.QspiPagesRan.{QspiPagesRan}
+
+-- the numbers are those of an answer of which the statement holds
+pub record SavedNumbers (a : ℕ) (bs : List ℕ) (r : QspiPagesRan) (log : List ℕ) : Type 0 where
+  pub answer : PagesRan
+  pub numbers : r ≡ pages answer
+  pub saved : Saved a bs answer log

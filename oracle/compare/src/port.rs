@@ -1,0 +1,109 @@
+//! Runs a call on the port.
+
+use call::{Call, Ended};
+use qspi::{Clocks, IdRan, LongIdRan, PagesRan, Ran, ValueRan};
+
+/// Runs `call` over replies and a log. A read goes into `buffer`, which has the read's length.
+pub fn run(call: &Call, replies: &[u32], log: &mut [u32], buffer: &mut [u8]) -> Ended {
+    match *call {
+        Call::Calculate { src_sel, clocks, target_ref, target_interface } => {
+            clock_config(qspi::calculate(src_sel, hertz(clocks), target_ref, target_interface))
+        }
+        Call::CalculateWithLoopback { src_sel, clocks, target_interface } => {
+            clock_config(qspi::calculate_with_loopback(src_sel, hertz(clocks), target_interface))
+        }
+        Call::LinearModeConfig { micron, operating_mode, two_devices } => {
+            let preset = qspi::linear_mode_config(micron, operating_mode, two_devices);
+            ended(preset.answer, vec![preset.value], 0, 0)
+        }
+        Call::Initialize { src_sel, ref_clk_div, baud_rate_div, phase, polarity } => {
+            value(qspi::initialize(src_sel, ref_clk_div, baud_rate_div, phase, polarity, replies, log))
+        }
+        Call::EnableLinearAddressing { config } => plain(qspi::enable_linear_addressing(config, replies, log)),
+        Call::EnableIoMode { dual_flash } => plain(qspi::enable_io_mode(dual_flash, replies, log)),
+        Call::Disable => plain(qspi::disable(replies, log)),
+        Call::New { set_quad, latency, clear_protection } => {
+            plain(qspi::new(set_quad, latency, clear_protection, replies, log))
+        }
+        Call::WriteEnable => plain(qspi::write_enable(replies, log)),
+        Call::WriteDisable => plain(qspi::write_disable(replies, log)),
+        Call::ClearStatus => plain(qspi::clear_status(replies, log)),
+        Call::WriteStatus { sr } => plain(qspi::write_status(sr, replies, log)),
+        Call::WriteStatusAndConfigRegister { sr, cr } => {
+            plain(qspi::write_status_and_config_register(sr, cr, replies, log))
+        }
+        Call::ReadStatusRegister1 => value(qspi::read_status_register_1(replies, log)),
+        Call::ReadConfigurationRegister => value(qspi::read_configuration_register(replies, log)),
+        Call::ReadRdidBase => id(qspi::read_rdid_base(replies, log)),
+        Call::ReadRdidExtended => long_id(qspi::read_rdid_extended(replies, log)),
+        Call::EraseSector { addr } => plain(qspi::erase_sector(addr, replies, log)),
+        Call::Program { addr, ref data } => plain(qspi::program(addr, data, replies, log)),
+        Call::WritePages { addr, ref data } => pages(qspi::write_pages(addr, data, replies, log)),
+        Call::ReadPageRead { addr, .. } => plain(qspi::read_page_read(addr, buffer, replies, log)),
+        Call::ReadFastRead { addr, dummy_byte, .. } => {
+            plain(qspi::read_fast_read(addr, dummy_byte, buffer, replies, log))
+        }
+    }
+}
+
+fn hertz(clocks: call::Clocks) -> Clocks {
+    Clocks {
+        io_ref_clk: clocks.io_ref_clk,
+        arm_ref_clk: clocks.arm_ref_clk,
+        ddr_ref_clk: clocks.ddr_ref_clk,
+        cpu_1x_clk: clocks.cpu_1x_clk,
+    }
+}
+
+/// Values of a call that is not done are zeros, which leaves none. Others stay, and differ from the Rust's.
+fn ended(answer: u32, values: Vec<u32>, used: usize, replies: usize) -> Ended {
+    let none = answer != 0 && values.iter().all(|value| *value == 0);
+    Ended { answer, values: if none { Vec::new() } else { values }, used, replies, programmed: 0 }
+}
+
+fn plain(ran: Ran) -> Ended {
+    ended(ran.answer, Vec::new(), ran.used, ran.replies)
+}
+
+fn pages(ran: PagesRan) -> Ended {
+    Ended { programmed: ran.programmed, ..ended(ran.answer, Vec::new(), ran.used, ran.replies) }
+}
+
+fn value(ran: ValueRan) -> Ended {
+    ended(ran.answer, vec![ran.value], ran.used, ran.replies)
+}
+
+fn clock_config(config: qspi::ClockConfig) -> Ended {
+    let values = vec![config.src_sel, config.ref_clk_div, config.loopback, config.baud_rate_divisor];
+    ended(config.answer, values, 0, 0)
+}
+
+/// What the codes of an id say where the call is not done follows from bytes of 0, and is no value of the answer.
+fn code(answer: u32, code: u32) -> u32 {
+    if answer == 0 { code } else { 0 }
+}
+
+fn id(ran: IdRan) -> Ended {
+    let values = vec![
+        ran.manufacturer_id,
+        ran.device_id,
+        code(ran.answer, ran.memory_interface_type),
+        code(ran.answer, ran.density),
+    ];
+    ended(ran.answer, values, ran.used, ran.replies)
+}
+
+fn long_id(ran: LongIdRan) -> Ended {
+    let values = vec![
+        ran.manufacturer_id,
+        ran.device_id,
+        code(ran.answer, ran.memory_interface_type),
+        code(ran.answer, ran.density),
+        ran.id_cfi_len,
+        ran.sector_arch_raw,
+        code(ran.answer, ran.sector_arch),
+        ran.family_id,
+        ran.model_number,
+    ];
+    ended(ran.answer, values, ran.used, ran.replies)
+}

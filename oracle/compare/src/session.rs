@@ -1,0 +1,157 @@
+//! A comparison from its first sweep to its tables.
+
+use crate::check::{Checker, Found, Limits};
+use crate::inputs::{self, Scale, Sweep};
+use crate::kind::Kind;
+use crate::mutants::Mutant;
+use crate::options::Options;
+use crate::rng::Rng;
+use crate::shrink::shrink;
+use crate::sides::{Case, Failure};
+use crate::vectors;
+use std::fs;
+use std::path::Path;
+use std::process::ExitCode;
+use std::time::Instant;
+
+/// Runs between two lines of progress.
+const PROGRESS: u64 = 1_000_000;
+
+/// Exit codes.
+pub const DIFFERENCE: u8 = 1;
+const GENERATOR: u8 = 2;
+const NOT_SEEN: u8 = 3;
+
+/// The random numbers of a kind of call, the same whichever other kinds are run.
+pub fn rng_of(seed: u64, kind: Kind, part: u64) -> Rng {
+    Rng::new(Rng::new(seed ^ (kind.index() as u64 + 1) << 32 ^ part << 48).next())
+}
+
+fn limits(scale: Scale) -> Limits {
+    match scale {
+        Scale::Default => Limits { every: 60, cuts: 12 },
+        Scale::Long => Limits { every: 400, cuts: 40 },
+    }
+}
+
+/// Sweeps the kinds and goes on with random calls until there are enough. A mutant changes the port's side.
+pub struct Session<'a> {
+    options: &'a Options,
+    pub checker: Checker,
+    next_progress: u64,
+    started: Instant,
+}
+
+impl<'a> Session<'a> {
+    pub fn new(options: &'a Options, mutant: Option<&'static Mutant>) -> Self {
+        let checker = Checker::new(limits(options.scale), mutant);
+        Session { options, checker, next_progress: PROGRESS, started: Instant::now() }
+    }
+
+    pub fn run(&mut self) -> Result<(), Box<Found>> {
+        for &kind in &self.options.kinds {
+            self.sweep(kind)?;
+        }
+        self.random()
+    }
+
+    fn sweep(&mut self, kind: Kind) -> Result<(), Box<Found>> {
+        let rng = rng_of(self.options.seed, kind, 0);
+        let scale = self.options.scale;
+        let mut visit = |probe| {
+            self.checker.probe(probe)?;
+            self.progress();
+            Ok(())
+        };
+        inputs::sweep(kind, &mut Sweep::new(scale, rng, &mut visit))
+    }
+
+    fn random(&mut self) -> Result<(), Box<Found>> {
+        let kinds = &self.options.kinds;
+        let mut rngs: Vec<Rng> = kinds.iter().map(|&kind| rng_of(self.options.seed, kind, 1)).collect();
+        while self.checker.tally.total() < self.options.calls {
+            for (&kind, rng) in kinds.iter().zip(&mut rngs) {
+                for _ in 0..kind.weight() {
+                    self.checker.probe(inputs::random(kind, rng))?;
+                }
+            }
+            self.progress();
+        }
+        Ok(())
+    }
+
+    fn progress(&mut self) {
+        let total = self.checker.tally.total();
+        if total >= self.next_progress {
+            eprintln!("{total} runs, {:.0} s", self.started.elapsed().as_secs_f64());
+            self.next_progress = total - total % PROGRESS + PROGRESS;
+        }
+    }
+}
+
+/// The whole comparison, with its tables.
+pub fn compare(options: &Options) -> ExitCode {
+    println!("seed {}", options.seed);
+    let mut session = Session::new(options, None);
+    let found = session.run().err();
+    let differs = found.as_ref().map(|found| Kind::of(&found.case.call));
+    print!("{}", session.checker.tally.table(&options.kinds, differs));
+    match found {
+        Some(found) => report(&mut session.checker, *found),
+        None => seen(&session.checker, options.complete()),
+    }
+}
+
+/// The smallest failing case.
+fn report(checker: &mut Checker, found: Found) -> ExitCode {
+    let first = found.failure.to_string();
+    let found = shrink(checker, found);
+    println!("found as: {first}");
+    println!("smallest: {}", found.failure);
+    print!("{}", describe(&found.case));
+    match found.failure {
+        Failure::Differs(_) => ExitCode::from(DIFFERENCE),
+        Failure::Panicked(_) => ExitCode::from(GENERATOR),
+    }
+}
+
+/// Prints the fixed list of cases, or writes it to a file.
+pub fn list(options: &Options, file: Option<&Path>) -> ExitCode {
+    let vectors = match vectors::vectors(options.seed, &options.kinds) {
+        Ok(vectors) => vectors,
+        Err(found) => return report(&mut Checker::new(limits(options.scale), None), *found),
+    };
+    let text = vectors::text(&vectors);
+    match file {
+        None => print!("{text}"),
+        Some(file) => {
+            if let Err(error) = fs::write(file, text) {
+                eprintln!("{}: {error}", file.display());
+                return ExitCode::FAILURE;
+            }
+        }
+    }
+    ExitCode::SUCCESS
+}
+
+fn describe(case: &Case) -> String {
+    let replies: Vec<String> = case.given().iter().map(|reply| format!("{reply:X}")).collect();
+    format!(
+        "  kind    {}\n  call    {:X?}\n  room    {} log words\n  replies {} [{}]\n",
+        Kind::of(&case.call).name(),
+        case.call,
+        case.room,
+        replies.len(),
+        replies.join(", ")
+    )
+}
+
+/// The answers and turns that were seen; where all kinds ran, none may be missing.
+fn seen(checker: &Checker, complete: bool) -> ExitCode {
+    print!("{}", checker.tally.answer_table());
+    let missing = if complete { checker.tally.missing() } else { Vec::new() };
+    for line in &missing {
+        println!("{line}");
+    }
+    if missing.is_empty() { ExitCode::SUCCESS } else { ExitCode::from(NOT_SEEN) }
+}

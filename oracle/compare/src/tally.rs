@@ -1,0 +1,179 @@
+//! Counts of runs, and what must have been seen.
+
+use crate::kind::Kind;
+use crate::observe::Observed;
+use call::{Call, Ended};
+use std::fmt::Write;
+
+const ANSWERS: usize = 32;
+
+/// Answers that the Rust, or a stop of its recorder, can give to a kind of call.
+const fn expected(kind: Kind) -> &'static [u32] {
+    match kind {
+        Kind::Calculate => &[0, 6, 7],
+        Kind::CalculateWithLoopback => &[0, 6],
+        Kind::LinearModeConfig => &[0],
+        Kind::Initialize => &[0, 24],
+        Kind::EraseSector => &[0, 1, 2, 21, 23, 24],
+        Kind::Program => &[0, 1, 3, 4, 5, 22, 23, 24],
+        Kind::WritePages => &[0, 1, 4, 5, 22, 23, 24],
+        _ => &[0, 23, 24],
+    }
+}
+
+/// Gives the marks: turns of a run that must have been taken at least once.
+macro_rules! marks {
+    ($($mark:ident = $name:literal),* $(,)?) => {
+        #[derive(Clone, Copy, Debug)]
+        enum Mark { $($mark),* }
+
+        const MARKS: &[&str] = &[$($name),*];
+    };
+}
+
+marks! {
+    Drain = "waiting words drained",
+    Late = "status read without a word",
+    Flicker = "word shown, then hidden",
+    BusyErase = "busy polls of an erase",
+    BusyProgram = "busy polls of a program",
+    ErrorWhileErasing = "an error bit and busy together, erase",
+    ErrorWhileProgramming = "an error bit and busy together, program",
+    NotAlignedAfterChunks = "4 after finished chunks",
+    CrossesAfterChunks = "5 after finished chunks",
+    FailedAfterChunks = "22 after finished chunks",
+    StoppedAfterChunks = "23 or 24 after finished chunks",
+    SeveralChunksRead = "a read of several chunks",
+    InterfaceType11 = "11 for the memory interface type",
+    Density11 = "11 for the density",
+    SectorArch11 = "11 for the sector architecture",
+    Listed = "every id code listed",
+}
+
+/// What was run and seen.
+#[derive(Clone, Debug)]
+pub struct Tally {
+    runs: Vec<u64>,
+    answers: Vec<[u64; ANSWERS]>,
+    marks: [u64; MARKS.len()],
+}
+
+impl Tally {
+    pub fn new() -> Self {
+        let kinds = Kind::ALL.len();
+        Tally { runs: vec![0; kinds], answers: vec![[0; ANSWERS]; kinds], marks: [0; MARKS.len()] }
+    }
+
+    pub fn total(&self) -> u64 {
+        self.runs.iter().sum()
+    }
+
+    pub fn runs(&self, kind: Kind) -> u64 {
+        self.runs[kind.index()]
+    }
+
+    /// Counts a run that was compared.
+    pub fn count(&mut self, call: &Call, ended: &Ended) {
+        let kind = Kind::of(call);
+        self.runs[kind.index()] += 1;
+        if let Some(count) = self.answers[kind.index()].get_mut(ended.answer as usize) {
+            *count += 1;
+        }
+        self.mark_chunks(call, ended);
+        self.mark_ids(ended);
+    }
+
+    /// Notes the turns that a whole run took. Status bits have a meaning where a call polls for them.
+    pub fn observe(&mut self, kind: Kind, seen: &Observed) {
+        self.mark(Mark::Drain, seen.drains > 0);
+        self.mark(Mark::Late, seen.waits > 0);
+        self.mark(Mark::Flicker, seen.flickers > 0);
+        match kind {
+            Kind::EraseSector => {
+                self.mark(Mark::BusyErase, seen.busy > 0);
+                self.mark(Mark::ErrorWhileErasing, seen.errors_while_busy > 0);
+            }
+            Kind::Program | Kind::WritePages => {
+                self.mark(Mark::BusyProgram, seen.busy > 0);
+                self.mark(Mark::ErrorWhileProgramming, seen.errors_while_busy > 0);
+            }
+            _ => {}
+        }
+    }
+
+    fn mark(&mut self, mark: Mark, seen: bool) {
+        self.marks[mark as usize] += u64::from(seen);
+    }
+
+    fn mark_chunks(&mut self, call: &Call, ended: &Ended) {
+        let after = ended.programmed > 0;
+        match (call, ended.answer) {
+            (Call::WritePages { .. }, 4) => self.mark(Mark::NotAlignedAfterChunks, after),
+            (Call::WritePages { .. }, 5) => self.mark(Mark::CrossesAfterChunks, after),
+            (Call::WritePages { .. }, 22) => self.mark(Mark::FailedAfterChunks, after),
+            (Call::WritePages { .. }, 23 | 24) => self.mark(Mark::StoppedAfterChunks, after),
+            (Call::ReadPageRead { length, .. } | Call::ReadFastRead { length, .. }, 0) => {
+                self.mark(Mark::SeveralChunksRead, *length > 248);
+            }
+            _ => {}
+        }
+    }
+
+    fn mark_ids(&mut self, ended: &Ended) {
+        let codes = match ended.values.len() {
+            4 if ended.used > 0 => [ended.values[2], ended.values[3], 0],
+            9 => [ended.values[2], ended.values[3], ended.values[6]],
+            _ => return,
+        };
+        let marks = [Mark::InterfaceType11, Mark::Density11, Mark::SectorArch11];
+        for (mark, code) in marks.into_iter().zip(codes) {
+            self.mark(mark, code == 11);
+        }
+        self.mark(Mark::Listed, codes == [0; 3]);
+    }
+
+    /// One line for each kind, and a line in all. `differs` is the kind with a difference.
+    pub fn table(&self, kinds: &[Kind], differs: Option<Kind>) -> String {
+        let mut text = String::new();
+        for &kind in kinds {
+            let differences = u32::from(differs == Some(kind));
+            let runs = self.runs(kind);
+            writeln!(text, "{:<38} {runs:>10} runs {differences:>3} differences", kind.name()).unwrap();
+        }
+        let differences = u32::from(differs.is_some());
+        writeln!(text, "{:<38} {:>10} runs {differences:>3} differences", "total", self.total()).unwrap();
+        text
+    }
+
+    /// Runs by answer, then the turns that were taken.
+    pub fn answer_table(&self) -> String {
+        let mut text = String::from("answer       runs  name\n");
+        for answer in 0..ANSWERS {
+            let runs: u64 = self.answers.iter().map(|row| row[answer]).sum();
+            if runs > 0 {
+                let name = qspi::Answer::from_number(answer as u32).map_or("?", qspi::Answer::name);
+                writeln!(text, "{answer:>6} {runs:>10}  {name}").unwrap();
+            }
+        }
+        text.push_str("  seen       runs  of what\n");
+        for (name, runs) in MARKS.iter().zip(self.marks) {
+            writeln!(text, "       {runs:>10}  {name}").unwrap();
+        }
+        text
+    }
+
+    /// What should have been seen and was not.
+    pub fn missing(&self) -> Vec<String> {
+        let mut missing = Vec::new();
+        for &kind in Kind::ALL {
+            for &answer in expected(kind) {
+                if self.answers[kind.index()][answer as usize] == 0 {
+                    missing.push(format!("{} never answered {answer}", kind.name()));
+                }
+            }
+        }
+        let unseen = MARKS.iter().zip(self.marks).filter(|(_, runs)| *runs == 0);
+        missing.extend(unseen.map(|(name, _)| format!("never seen: {name}")));
+        missing
+    }
+}
