@@ -1,5 +1,5 @@
 pub mod FourBytes
 pub mod Verdicts
 pub mod Runs
-pub mod Carried
+pub mod Passes
 pub mod Rules

@@ -22,7 +22,7 @@ use Rattle.qspi_operation.specs.declared.Verdict.{Verdict}
 use Rattle.qspi_operation.specs.declared.Verdict.the-variants.{Ended, Changed, Full, Dry, Made}
 use Rattle.qspi_operation.specs.Store.{when, storeByte, storeReply, stored, isTaking, isReading, skipped}
 use Rattle.qspi_operation.specs.Step.{isGoing, verdictOf, act, moved, movedBy, counted, noted, taken, replyOf, stepOf, logOf, bufferOf}
-use Rattle.qspi_operation.specs.Run.{Run, here, runAt, runOf, fuel}
+use Rattle.qspi_operation.specs.Run.{Run, here, runAt, runOf, fuel, left}
 use Rattle.qspi_operation.proofs.Verdicts.{no, makes, room, ends}
 
 pub halted : (n : ℕ) (b : Bool) (a : Status) (o : Op) (bytes rs buffer log : List ℕ) → b ≡ false → runAt n b a o bytes rs buffer log ≡ here a o buffer log
@@ -30,11 +30,6 @@ unfolding runAt
 halted zero b a o bytes rs buffer log h = refl
 halted (suc n) true a o bytes rs buffer log h = no (sym h)
 halted (suc n) false a o bytes rs buffer log h = refl
-
--- how many steps are left, 0 once it has ended
-abbrev pub left : Bool → ℕ → ℕ
-left true n = n
-left false n = 0
 
 left-le : (b : Bool) (n : ℕ) → left b n ≤ n
 left-le true n = omega arith

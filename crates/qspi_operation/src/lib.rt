@@ -4,9 +4,12 @@ ghost use mathlib.Core.Path.{_≡_};
 ghost use Prim.Native.Nat.{_+_, _≤_};
 ghost use lib.Dec.{leb};
 ghost use lib.ListN.{length};
+ghost use Rattle.qspi_transfer.specs.Wire.{wireNext};
 ghost use Rattle.qspi_script.specs.Stages.{frameOf};
-ghost use Rattle.qspi_operation.specs.Step.{isGoing, registerAccess, sendAccess, turnedOn, wentOn, accessOf, shown, dueOf, answered, sameLengths, going, verdictOf, stopped, counted, moved, written, replyOf, stepOf, logOf, bufferOf, programmedOf};
-ghost use Rattle.qspi_operation.specs.Run.{runOf, Ran};
+ghost use Rattle.qspi_script.specs.declared.Status.the-variants.{Going};
+ghost use Rattle.qspi_operation.specs.Step.{isGoing, registerAccess, sendAccess, turnedOn, accessOf, shown, dueOf, answered, sameLengths, going, stopped, counted, written, replyOf, stepOf, logOf, bufferOf, programmedOf};
+ghost use Rattle.qspi_operation.specs.Pass.{isOn, passedBy, standsFor};
+ghost use Rattle.qspi_operation.specs.Run.{Onward, runOf, Ran};
 use qspi_script::Job;
 use qspi_script::Place;
 use qspi_script::Status;
@@ -59,6 +62,35 @@ pub enum Verdict {
     Full,
     Dry,
     Made(u32, u32, bool),
+}
+
+// How a pass of a run's loop ended: the transfer goes on, it is over, or no access was made.
+enum How {
+    On,
+    Over,
+    Changed,
+    Full,
+    Dry,
+}
+
+// What a pass leaves of the transfer at hand, and the used counts.
+struct Passed {
+    wire: Wire,
+    used: usize,
+    replies: usize,
+    how: How,
+}
+
+fn is_on(how: How) -> bool
+    ensures on { λ r. ⌜ r ≡ isOn how ⌝ }
+{
+    match how {
+        How::On => true,
+        How::Over => false,
+        How::Changed => false,
+        How::Full => false,
+        How::Dry => false,
+    }
 }
 
 pub fn is_going(status: Status) -> bool
@@ -207,14 +239,7 @@ fn has_room(used: usize, room: usize) -> bool
 }
 
 // 25, then 24, then 23.
-fn judged_going(
-    op: Op,
-    data: &[u8],
-    buffer: usize,
-    room: usize,
-    replies: &[u32],
-    at: usize,
-) -> Verdict
+fn judged(op: Op, data: &[u8], buffer: usize, room: usize, replies: &[u32], at: usize) -> Verdict
     ensures verdict { λ r. ⌜ r ≡ going op (now («data» .entry)) buffer room (replyOf (now (replies .entry)) at) ⌝ }
 {
     let job = op.job;
@@ -231,28 +256,9 @@ fn judged_going(
     }
 }
 
-fn judged(op: Op, data: &[u8], buffer: usize, room: usize, replies: &[u32], at: usize) -> Verdict
-    ensures verdict { λ r. ⌜ r ≡ verdictOf op (now («data» .entry)) buffer room (replyOf (now (replies .entry)) at) ⌝ }
-{
-    let status = op.status;
-    if is_going(status) {
-        judged_going(op, data, buffer, room, replies, at)
-    } else {
-        Verdict::Ended
-    }
-}
-
-// No access was made, and the operation stays as it is.
-fn unmoved(op: Op, answer: Status, frame: Frame) -> Framed
-    ensures stepped { λ r. ⌜ r ≡ record { stepped = record { op = op; answer = answer }; frame = frame } ⌝ }
-{
-    let stepped = Stepped { op, answer };
-    Framed { stepped, frame }
-}
-
 // Ended without an access.
-fn stop(op: Op, status: Status, frame: Frame) -> Framed
-    ensures stepped { λ r. ⌜ r ≡ record { stepped = stopped op status; frame = frame } ⌝ }
+fn stop(op: Op, status: Status) -> Stepped
+    ensures stepped { λ r. ⌜ r ≡ stopped op status ⌝ }
 {
     let job = op.job;
     let place = op.place;
@@ -265,7 +271,10 @@ fn stop(op: Op, status: Status, frame: Frame) -> Framed
         replies: op.replies,
         status,
     };
-    unmoved(ended, status, frame)
+    Stepped {
+        op: ended,
+        answer: status,
+    }
 }
 
 // The next transfer begins; after the last one the replies stay for the answer.
@@ -307,53 +316,23 @@ fn turned(op: Op, used: usize, replies: usize) -> Stepped
     }
 }
 
-// The same transfer goes on.
-fn went_on(op: Op, wire: Wire, used: usize, replies: usize) -> Stepped
-    ensures stepped { λ r. ⌜ r ≡ wentOn op wire used replies ⌝ }
-{
-    let job = op.job;
-    let place = op.place;
-    let next = Op {
-        job,
-        place,
-        wire,
-        used,
-        replies,
-        status: Status::Going,
-    };
-    Stepped {
-        op: next,
-        answer: Status::Going,
-    }
-}
-
-// A step with the size of the transfer that is then at hand: a run carries it from step to step, since
-// only a turn changes it.
-struct Framed {
-    stepped: Stepped,
-    frame: Frame,
-}
-
-fn with_frame(s: Stepped) -> Framed
-    ensures framed { λ r. ⌜ (r .stepped ≡ s) × (r .frame ≡ frameOf (s .op .job) (s .op .place)) ⌝ }
-{
-    let op = s.op;
-    let frame = qspi_script::frame(op.job, op.place);
-    Framed { stepped: s, frame }
-}
-
 // After an access of a value, with the new used counts.
-fn went(op: Op, frame: Frame, used: usize, replies: usize, value: u32) -> Framed
-    requires { ⌜ frame ≡ frameOf (op .job) (op .place) ⌝ }
-    ensures stepped { λ r. ⌜ (r .stepped ≡ moved op used replies value) × (r .frame ≡ frameOf (r .stepped .op .job) (r .stepped .op .place)) ⌝ }
+fn advanced(wire: Wire, frame: Frame, used: usize, replies: usize, value: u32) -> Passed
+    ensures passed { λ r. ⌜ r ≡ passedBy (wireNext wire frame value) wire used replies ⌝ }
 {
-    let wire = op.wire;
     match qspi_transfer::advance(wire, frame, value) {
-        Moved::On(next) => {
-            let stepped = went_on(op, next, used, replies);
-            Framed { stepped, frame }
-        }
-        Moved::Over => with_frame(turned(op, used, replies)),
+        Moved::On(next) => Passed {
+            wire: next,
+            used,
+            replies,
+            how: How::On,
+        },
+        Moved::Over => Passed {
+            wire,
+            used,
+            replies,
+            how: How::Over,
+        },
     }
 }
 
@@ -377,8 +356,21 @@ fn put(log: &mut [u32], at: usize, first: u32, value: u32)
     log[at + 1] = value;
 }
 
-// One step of an operation whose frame is at hand.
-fn step_framed(
+// No access was made.
+fn unmoved(op: Op, how: How) -> Passed
+    ensures passed { λ r. ⌜ r ≡ record { wire = op .wire; used = op .used; replies = op .replies; how = how } ⌝ }
+{
+    let wire = op.wire;
+    Passed {
+        wire,
+        used: op.used,
+        replies: op.replies,
+        how,
+    }
+}
+
+// One access of an operation that is going on, or none, where the frame of its transfer is at hand.
+fn pass(
     op: Op,
     frame: Frame,
     data: &[u8],
@@ -386,24 +378,54 @@ fn step_framed(
     log: &mut [u32],
     replies: &[u32],
     at: usize,
-) -> Framed
-    requires { ⌜ frame ≡ frameOf (op .job) (op .place) ⌝ }
-    ensures state { λ r. ⌜ (r .stepped ≡ stepOf op (now («data» .entry)) (length (now (buffer .entry))) (length (now (log .entry))) (replyOf (now (replies .entry)) at)) × (r .frame ≡ frameOf (r .stepped .op .job) (r .stepped .op .place)) ⌝ }
+) -> Passed
+    requires { ⌜ (frame ≡ frameOf (op .job) (op .place)) × (op .status ≡ Going) ⌝ }
+    ensures stands { λ r. ⌜ standsFor (op .job) (op .place) r ≡ stepOf op (now («data» .entry)) (length (now (buffer .entry))) (length (now (log .entry))) (replyOf (now (replies .entry)) at) ⌝ }
     ensures logged { λ r. ⌜ now (log .exit) ≡ logOf op (now («data» .entry)) (length (now (buffer .entry))) (now (log .entry)) (replyOf (now (replies .entry)) at) ⌝ }
     ensures stored { λ r. ⌜ now (buffer .exit) ≡ bufferOf op (now («data» .entry)) (now (buffer .entry)) (length (now (log .entry))) (replyOf (now (replies .entry)) at) ⌝ }
 {
     let used = op.used;
-    let status = op.status;
     match judged(op, data, buffer.len(), log.len(), replies, at) {
-        Verdict::Ended => unmoved(op, status, frame),
-        Verdict::Changed => unmoved(op, Status::LentLengthChanged, frame),
-        Verdict::Full => stop(op, Status::LogFull, frame),
-        Verdict::Dry => stop(op, Status::RepliesEnded, frame),
+        Verdict::Ended => unmoved(op, How::Changed),
+        Verdict::Changed => unmoved(op, How::Changed),
+        Verdict::Full => unmoved(op, How::Full),
+        Verdict::Dry => unmoved(op, How::Dry),
         Verdict::Made(first, value, read) => {
             put(log, used, first, value);
             store::store(buffer, op.job, op.place, op.wire, value);
-            went(op, frame, used + 2, count(read, op.replies), value)
+            advanced(op.wire, frame, used + 2, count(read, op.replies), value)
         }
+    }
+}
+
+// The step that a pass stands for.
+fn resolved(job: Job, place: Place, passed: Passed) -> Stepped
+    ensures stepped { λ r. ⌜ r ≡ standsFor job place passed ⌝ }
+{
+    let wire = passed.wire;
+    let how = passed.how;
+    let used = passed.used;
+    let replies = passed.replies;
+    let op = Op {
+        job,
+        place,
+        wire,
+        used,
+        replies,
+        status: Status::Going,
+    };
+    match how {
+        How::On => Stepped {
+            op,
+            answer: Status::Going,
+        },
+        How::Over => turned(op, used, replies),
+        How::Changed => Stepped {
+            op,
+            answer: Status::LentLengthChanged,
+        },
+        How::Full => stop(op, Status::LogFull),
+        How::Dry => stop(op, Status::RepliesEnded),
     }
 }
 
@@ -420,9 +442,14 @@ pub fn step_at(
     ensures logged { λ r. ⌜ now (log .exit) ≡ logOf op (now («data» .entry)) (length (now (buffer .entry))) (now (log .entry)) (replyOf (now (replies .entry)) at) ⌝ }
     ensures stored { λ r. ⌜ now (buffer .exit) ≡ bufferOf op (now («data» .entry)) (now (buffer .entry)) (length (now (log .entry))) (replyOf (now (replies .entry)) at) ⌝ }
 {
-    let frame = qspi_script::frame(op.job, op.place);
-    let f = step_framed(op, frame, data, buffer, log, replies, at);
-    f.stepped
+    let status = op.status;
+    if is_going(status) {
+        let frame = qspi_script::frame(op.job, op.place);
+        let passed = pass(op, frame, data, buffer, log, replies, at);
+        resolved(op.job, op.place, passed)
+    } else {
+        Stepped { op, answer: status }
+    }
 }
 
 // One step of an operation.
@@ -443,44 +470,31 @@ pub fn step(op: Op, data: &[u8], buffer: &mut [u8], log: &mut [u32], reply: Repl
     }
 }
 
-// Steps an operation to its end, the replies in order.
-pub fn run(op: Op, data: &[u8], buffer: &mut [u8], log: &mut [u32], replies: &[u32]) -> Stepped
-    ensures ran { λ r. ⌜ Ran r (now (buffer .exit)) (now (log .exit)) (runOf op (now («data» .entry)) (now (replies .entry)) (now (buffer .entry)) (now (log .entry))) ⌝ }
+// The accesses of the transfer at hand, to its last one or to where the run stops. Only its wire and the
+// used counts go round the loop, and field by field: a struct that is copied whole takes its padding along.
+fn transfer(op: Op, data: &[u8], buffer: &mut [u8], log: &mut [u32], replies: &[u32]) -> Stepped
+    requires { ⌜ op .status ≡ Going ⌝ }
+    ensures onward { λ r. ⌜ Onward op (now («data» .entry)) (now (replies .entry)) (now (buffer .entry)) (now (log .entry)) r (now (buffer .exit)) (now (log .exit)) ⌝ }
 {
-    // Steps do not change the job, so the loop does not carry it round.
     let job = op.job;
-    let mut place = op.place;
+    let place = op.place;
+    let frame = qspi_script::frame(job, place);
     let mut wire = op.wire;
     let mut used = op.used;
     let mut taken = op.replies;
-    let mut status = op.status;
-    let mut answer = op.status;
-    let mut frame = qspi_script::frame(job, place);
-    while is_going(answer) {
+    let mut how = How::On;
+    while is_on(how) {
         let o = Op {
             job,
             place,
             wire,
             used,
             replies: taken,
-            status: answer,
+            status: Status::Going,
         };
-        let f = step_framed(o, frame, data, buffer, log, replies, taken);
-        let s = f.stepped;
-        let next = s.op;
-        // Field by field: a struct that is copied whole takes its padding round the loop.
-        let p = next.place;
-        let w = next.wire;
-        let size = f.frame;
-        let stage = p.stage;
+        let x = pass(o, frame, data, buffer, log, replies, taken);
+        let w = x.wire;
         let phase = w.phase;
-        place = Place {
-            stage,
-            done: p.done,
-            chunk: p.chunk,
-            sr: p.sr,
-            cr: p.cr,
-        };
         wire = Wire {
             phase,
             config: w.config,
@@ -490,26 +504,31 @@ pub fn run(op: Op, data: &[u8], buffer: &mut [u8], log: &mut [u32], replies: &[u
             old: w.old,
             last: w.last,
         };
-        frame = Frame {
-            port: size.port,
-            words: size.words,
-            bytes: size.bytes,
-            twice: size.twice,
-        };
-        used = next.used;
-        taken = next.replies;
-        status = next.status;
-        answer = s.answer;
+        used = x.used;
+        taken = x.replies;
+        how = x.how;
     }
-    let end = Op {
-        job,
-        place,
+    let end = Passed {
         wire,
         used,
         replies: taken,
-        status,
+        how,
     };
-    Stepped { op: end, answer }
+    resolved(job, place, end)
+}
+
+// Steps an operation to its end, the replies in order.
+pub fn run(op: Op, data: &[u8], buffer: &mut [u8], log: &mut [u32], replies: &[u32]) -> Stepped
+    ensures ran { λ r. ⌜ Ran r (now (buffer .exit)) (now (log .exit)) (runOf op (now («data» .entry)) (now (replies .entry)) (now (buffer .entry)) (now (log .entry))) ⌝ }
+{
+    let mut o = op;
+    let mut answer = op.status;
+    while is_going(answer) {
+        let s = transfer(o, data, buffer, log, replies);
+        o = s.op;
+        answer = s.answer;
+    }
+    Stepped { op: o, answer }
 }
 
 // The bytes that the answer of `write_pages` counts: those of the chunks that ended clean.

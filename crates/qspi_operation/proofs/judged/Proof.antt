@@ -4,24 +4,47 @@ use Rattle.qspi_operation.proofs.judged.Statement.{statement}
 use Rattle.qspi_operation.proofs.judged.Tie as tie
 use Rattle.qspi_operation.proofs.judged.Reads as reads
 use Rattle.qspi_operation.proofs.judged.Lts as lts
-use Rattle.qspi_operation.proofs.is_going.Reads as is-going-reads
-use Rattle.qspi_operation.proofs.judged_going.Reads as judged-going-reads
+use Rattle.qspi_operation.proofs.access.Reads as access-reads
+use Rattle.qspi_operation.proofs.answer_by.Reads as answer-by-reads
+use Rattle.qspi_operation.proofs.has_room.Reads as has-room-reads
+use Rattle.qspi_operation.proofs.same_lengths.Reads as same-lengths-reads
 
--- src/lib.rt:229:8
-is-going-requires : tie.Need-is-going-requires
-is-going-requires c κs = search needs
+-- src/lib.rt:214:8
+same-lengths-requires : tie.Need-same-lengths-requires
+same-lengths-requires c κs = search needs
 
--- src/lib.rt:230:9
-judged-going-requires : tie.Need-judged-going-requires
-judged-going-requires c κs = search needs
+-- src/lib.rt:215:12
+has-room-requires : tie.Need-has-room-requires
+has-room-requires c κs = search needs
 
--- src/lib.rt:225:1
+-- src/lib.rt:216:23
+access-requires : tie.Need-access-requires
+access-requires c κs = search needs
+
+-- src/lib.rt:216:13
+answer-by-requires : tie.Need-answer-by-requires
+answer-by-requires c κs = search needs
+
+-- src/lib.rt:208:1
 returns : tie.Need-returns
-returns c = simp (c .judged-going .ensures, c .before .if1 .taken, ← c .before .before .is-going .ensures)
+returns c = simp (c .answer-by .ensures, c .before .access .ensures, c .before .before .if2 .taken, ← c .before .before .before .has-room .ensures, c .before .before .before .before .if1 .taken, ← c .before .before .before .before .before .same-lengths .ensures)
 
--- src/lib.rt:225:1
+-- src/lib.rt:208:1
 returns-2 : tie.Need-returns-2
-returns-2 c = simp (c .if1 .left, ← c .before .is-going .ensures)
+returns-2 c = simp (c .if2 .left, ← c .before .has-room .ensures, c .before .before .if1 .taken, ← c .before .before .before .same-lengths .ensures)
+
+-- src/lib.rt:208:1
+returns-3 : tie.Need-returns-3
+returns-3 c = simp (c .if1 .left, ← c .before .same-lengths .ensures)
 
 pub judged-spec : {M : Type 1} → statement M
-judged-spec = tie.close (tie.spec is-going-requires judged-going-requires returns returns-2)
+judged-spec =
+    tie.close
+    (tie.spec
+    same-lengths-requires
+    has-room-requires
+    access-requires
+    answer-by-requires
+    returns
+    returns-2
+    returns-3)
