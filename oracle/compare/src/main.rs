@@ -18,7 +18,6 @@ mod session;
 mod shrink;
 mod sides;
 mod tally;
-mod vectors;
 
 use options::{Mode, Options};
 use std::process::ExitCode;
@@ -28,7 +27,6 @@ fn main() -> ExitCode {
         Ok(options) => match &options.mode {
             Mode::Compare => session::compare(&options),
             Mode::Mutants => mutants::run(&options),
-            Mode::List(file) => session::list(&options, file.as_deref()),
             Mode::Bench => measure(),
             Mode::Once(length) => once(&options, *length),
             Mode::Help => {

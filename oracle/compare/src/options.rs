@@ -5,11 +5,9 @@ use crate::kind::Kind;
 use std::path::PathBuf;
 
 pub const USAGE: &str = "\
-usage: compare [--long | --mutants | --bench | --list | --vectors FILE | --once BYTES] [--calls N] [--seed N] [--kinds A,B] [--workspace DIR]
+usage: compare [--long | --mutants | --bench | --once BYTES] [--calls N] [--seed N] [--kinds A,B] [--workspace DIR]
   --long           all register pairs, cuts at every place of longer runs, at least ten million runs
   --mutants        tries wrong ports and wrong drivers, each of which must be caught
-  --list           prints a fixed list of cases with the Rust's answers
-  --vectors FILE   writes that list to a file
   --bench          times both sides
   --once BYTES     runs the port alone, once for each kind with a length
   --calls N        goes on with random calls until N runs are compared
@@ -26,8 +24,6 @@ const DEFAULT_SEED: u64 = 20_240_601;
 pub enum Mode {
     Compare,
     Mutants,
-    /// The fixed list of cases, to a file or to standard output.
-    List(Option<PathBuf>),
     Bench,
     /// The port alone, once, with so many bytes.
     Once(usize),
@@ -61,8 +57,6 @@ impl Options {
             match argument.as_str() {
                 "--long" => (options.scale, options.calls) = (Scale::Long, LONG_CALLS),
                 "--mutants" => options.mode = Mode::Mutants,
-                "--list" => options.mode = Mode::List(None),
-                "--vectors" => options.mode = Mode::List(Some(value()?.into())),
                 "--help" => options.mode = Mode::Help,
                 "--bench" => options.mode = Mode::Bench,
                 "--once" => options.mode = Mode::Once(number(&value()?)? as usize),

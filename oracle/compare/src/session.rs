@@ -8,9 +8,6 @@ use crate::options::Options;
 use crate::rng::Rng;
 use crate::shrink::shrink;
 use crate::sides::{Case, Failure};
-use crate::vectors;
-use std::fs;
-use std::path::Path;
 use std::process::ExitCode;
 use std::time::Instant;
 
@@ -113,25 +110,6 @@ fn report(checker: &mut Checker, found: Found) -> ExitCode {
         Failure::Differs(_) => ExitCode::from(DIFFERENCE),
         Failure::Panicked(_) => ExitCode::from(GENERATOR),
     }
-}
-
-/// Prints the fixed list of cases, or writes it to a file.
-pub fn list(options: &Options, file: Option<&Path>) -> ExitCode {
-    let vectors = match vectors::vectors(options.seed, &options.kinds) {
-        Ok(vectors) => vectors,
-        Err(found) => return report(&mut Checker::new(limits(options.scale), None), *found),
-    };
-    let text = vectors::text(&vectors);
-    match file {
-        None => print!("{text}"),
-        Some(file) => {
-            if let Err(error) = fs::write(file, text) {
-                eprintln!("{}: {error}", file.display());
-                return ExitCode::FAILURE;
-            }
-        }
-    }
-    ExitCode::SUCCESS
 }
 
 fn describe(case: &Case) -> String {

@@ -169,11 +169,6 @@ impl Sides {
         oracle::live(call, source, buffer).map_err(Failure::Panicked)
     }
 
-    /// The bytes that the last run of the Rust left in its buffer.
-    pub fn oracle_bytes(&self) -> &[u8] {
-        &self.oracle_buffer[GUARD_BYTES..self.oracle_buffer.len() - GUARD_BYTES]
-    }
-
     /// Runs both sides and compares everything. The port goes first and the Rust takes the same data and replies from the same
     /// memory, so that a port which changes what it may only read is seen as well.
     pub fn run(&mut self, case: &Case) -> Result<oracle::Ran, Failure> {

@@ -26,11 +26,6 @@ fn lengths() -> Vec<usize> {
     lengths
 }
 
-/// A length that the sweeps have for its own sake.
-pub fn is_border(length: usize) -> bool {
-    length <= 20 || SIZES.iter().any(|&size| length.abs_diff(size) <= 1)
-}
-
 /// Addresses that end a span of `length` bytes at a limit or beside it, or lie at one.
 fn limit_addresses(length: usize) -> Vec<u32> {
     let length = length as u32;

@@ -11,8 +11,6 @@ use crate::kind::Kind;
 use crate::rng::Rng;
 use call::Call;
 
-pub use array::is_border;
-
 /// What is done with a probe; the first run that is no agreement ends a sweep.
 pub type Visit<'a> = dyn FnMut(Probe) -> Result<(), Box<Found>> + 'a;
 /// How a sweep ends.
