@@ -1,0 +1,71 @@
+//! How many cases have which answer, and which answers no case has.
+
+use crate::kind;
+use std::collections::BTreeMap;
+use std::fmt::Write;
+
+/// The id fields whose code may be unknown, by their place among the values.
+const ID_FIELDS: [(&str, usize, &str); 5] = [
+    ("read_id", 2, "memory interface type"),
+    ("read_id", 3, "density"),
+    ("read_long_id", 2, "memory interface type"),
+    ("read_long_id", 3, "density"),
+    ("read_long_id", 6, "sector architecture"),
+];
+
+#[derive(Default)]
+pub struct Table {
+    cases: BTreeMap<(usize, u32), usize>,
+    /// By place in [ID_FIELDS]: listed codes, unknown ones.
+    codes: [[usize; 2]; ID_FIELDS.len()],
+    /// By answer: `write_pages` that ended so after a finished chunk.
+    after_chunks: BTreeMap<u32, usize>,
+}
+
+impl Table {
+    pub fn count(&mut self, kind: usize, ended: &call::Ended) {
+        *self.cases.entry((kind, ended.answer)).or_default() += 1;
+        if ended.programmed > 0 {
+            *self.after_chunks.entry(ended.answer).or_default() += 1;
+        }
+        for (field, (name, place, _)) in ID_FIELDS.iter().enumerate() {
+            if kind::NAMES[kind] == *name && ended.answer == 0 {
+                self.codes[field][usize::from(ended.values[*place] == 11)] += 1;
+            }
+        }
+    }
+
+    /// A line for each kind and answer.
+    pub fn text(&self) -> String {
+        let mut text = String::new();
+        for (kind, name) in kind::NAMES.iter().enumerate() {
+            let row = self.cases.iter().filter(|((of, _), _)| *of == kind);
+            let cells: Vec<String> = row.map(|((_, answer), cases)| format!("{answer}: {cases}")).collect();
+            writeln!(text, "{name:<14} {}", cells.join("  ")).unwrap();
+        }
+        for ((name, _, field), [listed, unknown]) in ID_FIELDS.iter().zip(self.codes) {
+            writeln!(text, "{name}, {field}: {listed} listed, {unknown} unknown (11)").unwrap();
+        }
+        let cells: Vec<String> = self.after_chunks.iter().map(|(answer, cases)| format!("{answer}: {cases}")).collect();
+        writeln!(text, "write_pages after a finished chunk {}", cells.join("  ")).unwrap();
+        text
+    }
+
+    /// What should be in the list and is not.
+    pub fn missing(&self) -> Vec<String> {
+        let mut missing = Vec::new();
+        for (kind, name) in kind::NAMES.iter().enumerate() {
+            let answers = kind::answers(kind).iter().filter(|answer| !self.cases.contains_key(&(kind, **answer)));
+            missing.extend(answers.map(|answer| format!("{name} never answers {answer}")));
+        }
+        for ((name, _, field), codes) in ID_FIELDS.iter().zip(self.codes) {
+            if codes.contains(&0) {
+                missing.push(format!("{name} has not both kinds of {field}"));
+            }
+        }
+        let after = [0, 4, 5, 22, 23, 24];
+        let after = after.iter().filter(|answer| !self.after_chunks.contains_key(answer));
+        missing.extend(after.map(|answer| format!("write_pages never answers {answer} after a finished chunk")));
+        missing
+    }
+}
