@@ -53,13 +53,13 @@ fn lent(record: Record, replies: &[u32], data: &[u8], buffer: &mut [u8], log: &m
 }
 
 fn call(record: Record, data: &[u8], buffer: &mut [u8], replies: &[u32], log: &mut [u32]) -> Ended {
-    if record.kind < 8 {
-        return controller_call(record, replies, log);
+    let kind = record.kind;
+    match kind {
+        0..=7 => controller_call(record, replies, log),
+        8..=12 => command_call(record, replies, log),
+        13..=16 => register_call(kind, replies, log),
+        _ => array_call(record, data, buffer, replies, log),
     }
-    if record.kind < 17 {
-        return register_call(record, replies, log);
-    }
-    array_call(record, data, buffer, replies, log)
 }
 
 fn controller_call(record: Record, replies: &[u32], log: &mut [u32]) -> Ended {
@@ -70,20 +70,25 @@ fn controller_call(record: Record, replies: &[u32], log: &mut [u32]) -> Ended {
         2 => preset_end(preset(record)),
         3 => value_end(initialize(record, replies, log)),
         4 => end(qspi_abi::qspi_enable_linear_addressing(record.word, replies, log)),
-        5 => end(qspi_abi::qspi_enable_io_mode(record::flag(record, 1), replies, log)),
+        5 => end(qspi_abi::qspi_enable_io_mode(record::flag(record.flags, 1), replies, log)),
         6 => end(qspi_abi::qspi_disable(replies, log)),
         _ => end(new(record, replies, log)),
     }
 }
 
-fn register_call(record: Record, replies: &[u32], log: &mut [u32]) -> Ended {
+fn command_call(record: Record, replies: &[u32], log: &mut [u32]) -> Ended {
     let kind = record.kind;
     match kind {
         8 => end(qspi_abi::qspi_write_enable(replies, log)),
         9 => end(qspi_abi::qspi_write_disable(replies, log)),
         10 => end(qspi_abi::qspi_clear_status(replies, log)),
         11 => end(qspi_abi::qspi_write_status(record.first, replies, log)),
-        12 => end(write_both(record, replies, log)),
+        _ => end(write_both(record, replies, log)),
+    }
+}
+
+fn register_call(kind: u8, replies: &[u32], log: &mut [u32]) -> Ended {
+    match kind {
         13 => value_end(qspi_abi::qspi_read_status_register_1(replies, log)),
         14 => value_end(qspi_abi::qspi_read_configuration_register(replies, log)),
         15 => id_end(qspi_abi::qspi_read_rdid_base(replies, log)),
@@ -136,15 +141,16 @@ fn calculate_with_loopback(record: Record, replies: &[u32]) -> QspiClockConfig {
 }
 
 fn preset(record: Record) -> QspiPreset {
-    let micron = record::flag(record, 1);
-    let two_devices = record::flag(record, 2);
+    let micron = record::flag(record.flags, 1);
+    let two_devices = record::flag(record.flags, 2);
     qspi_abi::qspi_linear_mode_config(micron, record.first, two_devices)
 }
 
+// The first argument has the codes of source and divisor.
 fn initialize(record: Record, replies: &[u32], log: &mut [u32]) -> QspiValueRan {
-    let loopback = record::flag(record, 1);
-    let phase = record::flag(record, 2);
-    let polarity = record::flag(record, 4);
+    let loopback = record::flag(record.flags, 1);
+    let phase = record::flag(record.flags, 2);
+    let polarity = record::flag(record.flags, 4);
     qspi_abi::qspi_initialize(
         record.first % 4,
         record.second,
@@ -158,9 +164,9 @@ fn initialize(record: Record, replies: &[u32], log: &mut [u32]) -> QspiValueRan 
 }
 
 fn new(record: Record, replies: &[u32], log: &mut [u32]) -> QspiRan {
-    let set_quad = record::flag(record, 1);
-    let set_latency = record::flag(record, 2);
-    let clear_protection = record::flag(record, 4);
+    let set_quad = record::flag(record.flags, 1);
+    let set_latency = record::flag(record.flags, 2);
+    let clear_protection = record::flag(record.flags, 4);
     qspi_abi::qspi_new(
         set_quad,
         set_latency,
@@ -176,7 +182,7 @@ fn write_both(record: Record, replies: &[u32], log: &mut [u32]) -> QspiRan {
 }
 
 fn fast_read(record: Record, buffer: &mut [u8], replies: &[u32], log: &mut [u32]) -> QspiRan {
-    let dummy_byte = record::flag(record, 1);
+    let dummy_byte = record::flag(record.flags, 1);
     qspi_abi::qspi_read_fast_read(record.word, dummy_byte, buffer, replies, log)
 }
 

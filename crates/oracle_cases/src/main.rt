@@ -18,7 +18,8 @@
 // Data byte i is 7 i plus the first argument, modulo 256. Log and buffer are filled with one word and one
 // byte beforehand. Of an input that is no such list, `BAD` and the record's number are printed, and
 // nothing after it: the record is short, its kind unknown, a length past the limit or a reply past the
-// dictionary. 0 is also the number of a bad dictionary and of an input of 98,304 bytes or more.
+// dictionary. 0 is also the number of a bad dictionary and of an input of 98,304 bytes or more. The
+// stored list ends in a short record.
 ghost use Prim.Native.Nat.{_≤_};
 ghost use lib.ListN.{length};
 use libc::STDIN_FILENO;

@@ -72,10 +72,10 @@ pub fn within(record: Record) -> bool {
 }
 
 // A flag, by its bit's value.
-pub fn flag(record: Record, bit: u8) -> bool
+pub fn flag(flags: u8, bit: u8) -> bool
     requires { ⌜ 0 < bit ⌝ }
 {
-    record.flags / bit % 2 == 1
+    flags / bit % 2 == 1
 }
 
 // The words that the bytes make, four each.

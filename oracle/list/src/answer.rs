@@ -5,6 +5,7 @@ use crate::programmed::programmed;
 use call::{Call, Ended};
 use driver::Replies;
 use std::fmt::Write;
+use std::iter;
 
 /// The memory that the replaying program has.
 pub const LOG_WORDS: usize = 4096;
@@ -27,7 +28,8 @@ pub struct Case {
 /// What the Rust left of a case.
 pub struct Answered {
     pub ended: Ended,
-    log: Vec<u32>,
+    /// The used words.
+    pub log: Vec<u32>,
     buffer: Vec<u8>,
 }
 
@@ -41,16 +43,15 @@ pub fn answered(case: &Case) -> Answered {
     if let Call::WritePages { .. } = case.call {
         ended.programmed = programmed(&ran.log);
     }
-    let mut log = ran.log;
-    log.resize(LOG_WORDS, UNTOUCHED);
-    Answered { ended, log, buffer }
+    Answered { ended, log: ran.log, buffer }
 }
 
 impl Answered {
     /// The line of a case by its number and its kind's. A call that is not done has zeros for values.
     pub fn line(&self, number: usize, kind: usize) -> String {
         let Ended { answer, values, used, replies, programmed } = &self.ended;
-        let log = digest(self.log.iter().map(|word| u64::from(*word)));
+        let untouched = iter::repeat_n(&UNTOUCHED, LOG_WORDS - self.log.len());
+        let log = digest(self.log.iter().chain(untouched).map(|word| u64::from(*word)));
         let buffer = digest(self.buffer.iter().map(|byte| u64::from(*byte)));
         let mut line = format!("{number} {:<14} {answer} {used} {replies} {programmed}", kind::NAMES[kind]);
         write!(line, " {log:010x} {buffer:010x}").unwrap();

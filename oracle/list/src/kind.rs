@@ -77,3 +77,8 @@ pub fn answers(kind: usize) -> &'static [u32] {
         _ => &[0, 23, 24],
     }
 }
+
+/// Whether a call of a kind polls the flash's status for its end.
+pub fn polls(kind: usize) -> bool {
+    matches!(NAMES[kind], "erase_sector" | "program" | "write_pages")
+}

@@ -11,6 +11,7 @@ mod programmed;
 mod record;
 mod rng;
 mod table;
+mod turns;
 mod words;
 
 use answer::Case;
@@ -22,7 +23,7 @@ use table::Table;
 
 const LEAST_CASES: usize = 500;
 
-/// Both files, and the cases.
+/// Both files, and the cases. The list ends in a record that is cut short, and its text in the line that refuses it.
 struct Made {
     cases: Vec<Case>,
     input: Encoded,
@@ -37,9 +38,10 @@ fn made() -> Made {
     for (number, case) in cases.iter().enumerate() {
         let kind = kind::number(&case.call);
         let answered = answer::answered(case);
-        table.count(kind, &answered.ended);
+        table.count(kind, &answered);
         lines.push(answered.line(number, kind));
     }
+    lines.push(format!("BAD {}\n", cases.len()));
     Made { input: record::encoded(&cases), cases, lines, table }
 }
 
@@ -106,7 +108,10 @@ fn first_difference(stored: &[u8], made: &[u8]) -> Option<usize> {
 /// The case that a byte belongs to, and the line that the Rust gives.
 fn at_case(made: &Made, starts: &[usize], at: usize) -> String {
     match starts.iter().rposition(|start| *start <= at) {
-        Some(number) => format!("case {number}: {:X?}\n{}", made.cases[number].call, made.lines[number].trim_end()),
+        Some(number) if number < made.cases.len() => {
+            format!("case {number}: {:X?}\n{}", made.cases[number].call, made.lines[number].trim_end())
+        }
+        Some(_) => "at the record that is cut short".into(),
         None => "before the first case".into(),
     }
 }

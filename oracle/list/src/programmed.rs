@@ -8,18 +8,30 @@ const TX_DATA: [u32; 4] = [0x1C, 0x80, 0x84, 0x88];
 const PAGE_PROGRAM: u32 = 0x02;
 const READ_STATUS: u32 = 0x05;
 
-/// Bits 6 and 0 of the status byte, which is a reply's top one.
-const ERROR_OR_BUSY: u32 = 0x41 << 24;
+/// Bits 6 and 0 of the status byte.
+const ERROR_OR_BUSY: u32 = 0x41;
 
 /// What went over the wire from a write of 1 to the enable register to the write of 0 after it.
 #[derive(Default)]
-struct Transfer {
+pub struct Transfer {
     sent: Vec<u32>,
     received: Vec<u32>,
 }
 
+impl Transfer {
+    fn command(&self) -> Option<u32> {
+        self.sent.first().map(|word| word & 0xFF)
+    }
+
+    /// The byte of a status read.
+    pub fn status(&self) -> Option<u32> {
+        let reply = self.received.last().filter(|_| self.command() == Some(READ_STATUS));
+        reply.map(|word| word >> 24)
+    }
+}
+
 /// The transfers that were closed.
-fn transfers(log: &[u32]) -> Vec<Transfer> {
+pub fn transfers(log: &[u32]) -> Vec<Transfer> {
     let mut closed = Vec::new();
     let mut open = None;
     for access in log.chunks_exact(2) {
@@ -38,13 +50,11 @@ fn transfers(log: &[u32]) -> Vec<Transfer> {
 pub fn programmed(log: &[u32]) -> usize {
     let mut bytes = 0;
     let mut chunk = 0;
-    for Transfer { sent, received } in transfers(log) {
-        let command = sent.first().map(|word| word & 0xFF);
-        if command == Some(PAGE_PROGRAM) {
-            chunk = 4 * (sent.len() - 1);
+    for transfer in transfers(log) {
+        if transfer.command() == Some(PAGE_PROGRAM) {
+            chunk = 4 * (transfer.sent.len() - 1);
         }
-        let clean = received.last().is_some_and(|reply| reply & ERROR_OR_BUSY == 0);
-        if command == Some(READ_STATUS) && clean {
+        if transfer.status().is_some_and(|status| status & ERROR_OR_BUSY == 0) {
             bytes += std::mem::take(&mut chunk);
         }
     }

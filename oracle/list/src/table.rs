@@ -1,6 +1,8 @@
 //! How many cases have which answer, and which answers no case has.
 
+use crate::answer::Answered;
 use crate::kind;
+use crate::turns::{self, turns};
 use std::collections::BTreeMap;
 use std::fmt::Write;
 
@@ -20,13 +22,18 @@ pub struct Table {
     codes: [[usize; 2]; ID_FIELDS.len()],
     /// By answer: `write_pages` that ended so after a finished chunk.
     after_chunks: BTreeMap<u32, usize>,
+    turns: [usize; turns::NAMES.len()],
 }
 
 impl Table {
-    pub fn count(&mut self, kind: usize, ended: &call::Ended) {
+    pub fn count(&mut self, kind: usize, answered: &Answered) {
+        let ended = &answered.ended;
         *self.cases.entry((kind, ended.answer)).or_default() += 1;
         if ended.programmed > 0 {
             *self.after_chunks.entry(ended.answer).or_default() += 1;
+        }
+        for (cases, taken) in self.turns.iter_mut().zip(turns(&answered.log, kind::polls(kind))) {
+            *cases += usize::from(taken);
         }
         for (field, (name, place, _)) in ID_FIELDS.iter().enumerate() {
             if kind::NAMES[kind] == *name && ended.answer == 0 {
@@ -48,6 +55,9 @@ impl Table {
         }
         let cells: Vec<String> = self.after_chunks.iter().map(|(answer, cases)| format!("{answer}: {cases}")).collect();
         writeln!(text, "write_pages after a finished chunk {}", cells.join("  ")).unwrap();
+        for (name, cases) in turns::NAMES.iter().zip(self.turns) {
+            writeln!(text, "{name}: {cases}").unwrap();
+        }
         text
     }
 
@@ -66,6 +76,8 @@ impl Table {
         let after = [0, 4, 5, 22, 23, 24];
         let after = after.iter().filter(|answer| !self.after_chunks.contains_key(answer));
         missing.extend(after.map(|answer| format!("write_pages never answers {answer} after a finished chunk")));
+        let turns = turns::NAMES.iter().zip(self.turns).filter(|(_, cases)| *cases == 0);
+        missing.extend(turns.map(|(name, _)| format!("no case has {name}")));
         missing
     }
 }

@@ -1,4 +1,5 @@
--- `oracle_cases::records` is safe and ends: each case takes bytes of the input, so the place rises to its end, and the number with it. Assumes nothing.
+-- `oracle_cases::records` is safe and ends: each case takes bytes of the input, so that the place rises to its end, and the number is
+-- at most the place. Assumes nothing.
 use Prim.Native.Nat.{_-_, _≤_}
 use native.Mathlib.Omega.{arith}
 use lib.ListN.{length}

@@ -188,7 +188,7 @@ fn last_places(list: &mut List) {
     let whole = list.on_device(&call, &manner);
     let first = list.on_device(&pages(0x0000_4480, 128), &manner);
     for room in first.used() - 6..first.used() + 5 {
-        list.push(&call, &whole.replies, room);
+        list.push(&call, whole.within(room), room);
     }
     for given in first.replies.len() - 2..first.replies.len() + 3 {
         list.push(&call, &whole.replies[..given], whole.used());

@@ -1,4 +1,4 @@
-//! The cases, kind by kind in the order of [Call].
+//! The cases, and the ways in which they are made.
 
 mod array;
 mod clocks;
@@ -36,6 +36,13 @@ struct Live {
 impl Live {
     fn used(&self) -> usize {
         2 * self.reads.len()
+    }
+
+    /// The replies of as many accesses as a log of so many words has room for, and one that is left.
+    fn within(&self, room: usize) -> &[u32] {
+        let made = &self.reads[..self.reads.len().min(room / 2)];
+        let reads = made.iter().filter(|read| **read).count();
+        &self.replies[..self.replies.len().min(reads + 1)]
     }
 }
 
@@ -83,7 +90,7 @@ impl List {
         self.whole(call.clone(), manner.clone());
         let live = self.on_device(&call, &manner);
         let room = self.rng().index(live.used());
-        self.push(&call, &live.replies, room);
+        self.push(&call, live.within(room), room);
         if !live.replies.is_empty() {
             let given = self.rng().index(live.replies.len());
             self.push(&call, &live.replies[..given], live.used());
@@ -94,7 +101,7 @@ impl List {
     fn every_cut(&mut self, call: Call, manner: Manner, step: usize) {
         let live = self.on_device(&call, &manner);
         for room in (0..=live.used()).step_by(step) {
-            self.push(&call, &live.replies, room);
+            self.push(&call, live.within(room), room);
         }
         for given in 0..live.replies.len() {
             self.push(&call, &live.replies[..given], live.used());
@@ -104,17 +111,16 @@ impl List {
     /// Log and replies end at the same read.
     fn both_end(&mut self, call: Call, manner: Manner) {
         let live = self.on_device(&call, &manner);
-        let mut given = 0;
-        for (place, _) in live.reads.iter().enumerate().filter(|(_, read)| **read) {
+        let reads = live.reads.iter().enumerate().filter(|(_, read)| **read);
+        for (given, (place, _)) in reads.enumerate() {
             self.push(&call, &live.replies[..given], 2 * place + given % 2);
-            given += 1;
         }
     }
 
     /// A run on words at random, of which there are so many.
     fn noise(&mut self, call: Call, words: usize) {
         let live = self.live(&call, Box::new(Noise::new(self.rng(), words)));
-        let room = if self.cases.len() % 3 == 0 { self.rng().index(live.used() + 3) } else { live.used() + 2 };
+        let room = if self.cases.len().is_multiple_of(3) { self.rng().index(live.used() + 3) } else { live.used() + 2 };
         self.push(&call, &live.replies, room);
     }
 }

@@ -74,6 +74,10 @@ fn new(list: &mut List) {
             }
         }
     }
+    // All asked for, and nothing to write.
+    let all = Call::New { set_quad: true, latency: Some(3), clear_protection: true };
+    list.whole(all.clone(), Manner { config_register: 0xC2, ..Manner::status(&[0x62]) });
+    list.whole(all, Manner { config_register: 0xFF, ..Manner::status(&[0xE3]) });
     let call = Call::New { set_quad: true, latency: Some(2), clear_protection: true };
     let manner = Manner { config_register: 0xFD, ..Manner::status(&[0xFF]) };
     for _ in 0..4 {
