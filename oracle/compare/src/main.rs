@@ -3,6 +3,7 @@
 #[cfg(feature = "bench")]
 mod bench;
 mod check;
+mod comparison;
 mod device;
 mod domain;
 mod inputs;
@@ -14,7 +15,6 @@ mod options;
 mod oracle;
 mod port;
 mod rng;
-mod session;
 mod shrink;
 mod sides;
 mod tally;
@@ -25,7 +25,7 @@ use std::process::ExitCode;
 fn main() -> ExitCode {
     match Options::parse(std::env::args().skip(1)) {
         Ok(options) => match &options.mode {
-            Mode::Compare => session::compare(&options),
+            Mode::Compare => comparison::compare(&options),
             Mode::Mutants => mutants::run(&options),
             Mode::Bench => measure(),
             Mode::Once(length) => once(&options, *length),

@@ -8,9 +8,9 @@ mod registers;
 mod text;
 
 use crate::check::Found;
+use crate::comparison::Comparison;
 use crate::kind::Kind;
 use crate::options::Options;
-use crate::session::Session;
 use crate::shrink::shrink;
 use crate::sides::{Case, Outcome};
 use call::Call;
@@ -80,10 +80,10 @@ fn try_port(mutant: &'static Mutant, options: &Options) -> Result<Found, Kind> {
     for &kind in mutant.kinds {
         // Sweeps alone, so that nothing is tried which a comparison would not run.
         let options = Options { calls: 0, kinds: vec![kind], ..options.clone() };
-        let mut session = Session::new(&options, Some(mutant));
-        let found = session.run().err().ok_or(kind)?;
+        let mut comparison = Comparison::new(&options, Some(mutant));
+        let found = comparison.run().err().ok_or(kind)?;
         if first.is_none() {
-            first = Some(shrink(&mut session.checker, *found));
+            first = Some(shrink(&mut comparison.checker, *found));
         }
     }
     first.ok_or(Kind::Calculate)

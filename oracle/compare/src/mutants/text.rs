@@ -185,7 +185,7 @@ fn try_edit(edit: &Edit, copy: &Copy, seed: u64) -> Result<Option<String>, Strin
 fn difference(compared: &Output) -> Option<String> {
     let text = String::from_utf8_lossy(&compared.stdout);
     let line = text.lines().find_map(|line| line.strip_prefix("smallest: ")).map(str::to_owned);
-    line.filter(|_| compared.status.code() == Some(i32::from(crate::session::DIFFERENCE)))
+    line.filter(|_| compared.status.code() == Some(i32::from(crate::comparison::DIFFERENCE)))
 }
 
 #[cfg(test)]

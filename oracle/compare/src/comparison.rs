@@ -32,17 +32,17 @@ fn limits(scale: Scale) -> Limits {
 }
 
 /// Sweeps the kinds and goes on with random calls until there are enough. A mutant changes the port's side.
-pub struct Session<'a> {
+pub struct Comparison<'a> {
     options: &'a Options,
     pub checker: Checker,
     next_progress: u64,
     started: Instant,
 }
 
-impl<'a> Session<'a> {
+impl<'a> Comparison<'a> {
     pub fn new(options: &'a Options, mutant: Option<&'static Mutant>) -> Self {
         let checker = Checker::new(limits(options.scale), mutant);
-        Session { options, checker, next_progress: PROGRESS, started: Instant::now() }
+        Comparison { options, checker, next_progress: PROGRESS, started: Instant::now() }
     }
 
     pub fn run(&mut self) -> Result<(), Box<Found>> {
@@ -89,13 +89,13 @@ impl<'a> Session<'a> {
 /// The whole comparison, with its tables.
 pub fn compare(options: &Options) -> ExitCode {
     println!("seed {}", options.seed);
-    let mut session = Session::new(options, None);
-    let found = session.run().err();
+    let mut comparison = Comparison::new(options, None);
+    let found = comparison.run().err();
     let differs = found.as_ref().map(|found| Kind::of(&found.case.call));
-    print!("{}", session.checker.tally.table(&options.kinds, differs));
+    print!("{}", comparison.checker.tally.table(&options.kinds, differs));
     match found {
-        Some(found) => report(&mut session.checker, *found),
-        None => seen(&session.checker, options.complete()),
+        Some(found) => report(&mut comparison.checker, *found),
+        None => seen(&comparison.checker, options.complete()),
     }
 }
 
