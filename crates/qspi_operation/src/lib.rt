@@ -386,6 +386,7 @@ fn pass(
 {
     let used = op.used;
     match judged(op, data, buffer.len(), log.len(), replies, at) {
+        // Never so: `judged` is asked only of an operation that is going on.
         Verdict::Ended => unmoved(op, How::Changed),
         Verdict::Changed => unmoved(op, How::Changed),
         Verdict::Full => unmoved(op, How::Full),
