@@ -26,16 +26,20 @@ fn byte_at(s: &[u8], at: usize) -> u8 {
     if at < s.len() { s[at] } else { 0 }
 }
 
+// Two bytes; 0 at a place that no record has.
 pub fn pair_at(s: &[u8], at: usize) -> usize
-    requires { ⌜ at < 4096 ⌝ }
     ensures two { λ r. ⌜ r < 65536 ⌝ }
 {
+    if 4096 <= at {
+        return 0;
+    }
     byte_at(s, at) as usize + byte_at(s, at + 1) as usize * 0x100
 }
 
-pub fn word_at(s: &[u8], at: usize) -> u32
-    requires { ⌜ at < 4094 ⌝ }
-{
+fn word_at(s: &[u8], at: usize) -> u32 {
+    if 4094 <= at {
+        return 0;
+    }
     (pair_at(s, at) + pair_at(s, at + 2) * 0x1_0000) as u32
 }
 
@@ -71,10 +75,11 @@ pub fn within(record: Record) -> bool {
     record.room <= 4096
 }
 
-// A flag, by its bit's value.
-pub fn flag(flags: u8, bit: u8) -> bool
-    requires { ⌜ 0 < bit ⌝ }
-{
+// A flag, by its bit's value; 0 is no bit.
+pub fn flag(flags: u8, bit: u8) -> bool {
+    if bit == 0 {
+        return false;
+    }
     flags / bit % 2 == 1
 }
 

@@ -1,7 +1,7 @@
 -- What an exported function answers, as numbers: document 01's number of the answer, 0 where the call is done, and the used counts.
 use Prim.Native.Nat.{ℕ, _+_, _*_}
 use mathlib.Core.List.{List}
-use lib.ListN.{length, getD}
+use lib.ListN.{getD}
 use Rattle.zynq7000.specs.Number.{Answer}
 use Rattle.zedboard_bsp.specs.DeviceId.{replyBytes, longReplyBytes, codeAnswer, interfaceCodes, densityCodes, sectorCodes}
 use Rattle.qspi_script.specs.Stages.{numberOf}
