@@ -85,8 +85,8 @@ fn is_done(status: Status) -> bool
     }
 }
 
-// A reply, where the call is done.
-fn kept(answer: Status, reply: u32) -> u32
+// A reply, where the call is done: what its value is made of.
+pub fn kept(answer: Status, reply: u32) -> u32
     ensures kept { λ r. ⌜ r ≡ keptOf answer reply ⌝ }
 {
     if is_done(answer) { reply } else { 0 }

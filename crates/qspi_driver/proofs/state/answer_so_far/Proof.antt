@@ -1,0 +1,33 @@
+-- Each field is copied or is what its callee says. Assumes nothing.
+use mathlib.Core.Path.{_≡_, refl, sym, ap, _∙_}
+use borrow.Author.Needs.{needs}
+use Rattle.qspi_driver.proofs.state.answer_so_far.Statement.{statement}
+use Rattle.qspi_driver.proofs.state.answer_so_far.Tie as tie
+use Rattle.qspi_driver.proofs.state.answer_so_far.Reads as reads
+use Rattle.qspi_driver.proofs.state.answer_so_far.Lts as lts
+use Rattle.qspi_operation.proofs.programmed.Reads as programmed-reads
+use Rattle.qspi_runs.proofs.kept.Reads as kept-reads
+
+-- src/state.rt:111:21
+programmed-requires : tie.Need-programmed-requires
+programmed-requires c κs = search needs
+
+-- src/state.rt:112:16
+kept-requires : tie.Need-kept-requires
+kept-requires c κs = search needs
+
+-- src/state.rt:113:14
+kept-requires-2 : tie.Need-kept-requires-2
+kept-requires-2 c κs = search needs
+
+-- src/state.rt:114:15
+kept-requires-3 : tie.Need-kept-requires-3
+kept-requires-3 c κs = search needs
+
+-- src/state.rt:101:1
+returns : tie.Need-returns
+returns c = rw (c .before .before .before .programmed .ensures, c .before .before .kept .ensures, c .before .kept2 .ensures, c .kept3 .ensures)
+
+pub answer-so-far-spec : {M : Type 1} → statement M
+answer-so-far-spec =
+    tie.close (tie.spec programmed-requires kept-requires kept-requires-2 kept-requires-3 returns)

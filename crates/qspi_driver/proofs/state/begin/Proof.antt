@@ -1,0 +1,29 @@
+-- The status of the operation at hand decides. Assumes nothing.
+use mathlib.Core.Path.{_≡_, refl, sym, ap, _∙_}
+use mathlib.Core.Bool.{Bool}
+use Rattle.qspi_driver.specs.State.{begunIf}
+use borrow.Author.Needs.{needs}
+use Rattle.qspi_driver.proofs.state.begin.Statement.{statement}
+use Rattle.qspi_driver.proofs.state.begin.Tie as tie
+use Rattle.qspi_driver.proofs.state.begin.Reads as reads
+use Rattle.qspi_driver.proofs.state.begin.Lts as lts
+use Rattle.qspi_operation.proofs.is_going.Reads as is-going-reads
+
+-- src/state.rt:79:8
+is-going-requires : tie.Need-is-going-requires
+is-going-requires c κs = search needs
+
+-- src/state.rt:74:1
+returns : tie.Need-returns
+returns c =
+    let x = c .before .before .before .args in
+    ap (λ (b : Bool). begunIf b (x .state) (x .op)) (sym (sym (c .before .is-going .ensures) ∙ c .if1 .taken))
+
+-- src/state.rt:74:1
+returns-2 : tie.Need-returns-2
+returns-2 c =
+    let x = c .before .before .before .args in
+    ap (λ (b : Bool). begunIf b (x .state) (x .op)) (sym (sym (c .before .is-going .ensures) ∙ c .if1 .left))
+
+pub begin-spec : {M : Type 1} → statement M
+begin-spec = tie.close (tie.spec is-going-requires returns returns-2)

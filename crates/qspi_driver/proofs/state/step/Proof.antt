@@ -1,0 +1,33 @@
+-- The step of the operation at hand. Assumes nothing.
+use mathlib.Core.Path.{ap, _∙_}
+use Rattle.qspi_driver.specs.State.{actedBy}
+use borrow.Author.Needs.{needs}
+use Rattle.qspi_driver.proofs.state.step.Statement.{statement}
+use Rattle.qspi_driver.proofs.state.step.Tie as tie
+use Rattle.qspi_driver.proofs.state.step.Reads as reads
+use Rattle.qspi_driver.proofs.state.step.Lts as lts
+use Rattle.qspi_driver.proofs.state.holding.Reads as holding-reads
+use Rattle.qspi_operation.proofs.step.Reads as step-reads
+
+-- src/state.rt:134:13
+step-requires : tie.Need-step-requires
+step-requires c κs = search needs
+
+-- src/state.rt:134:5
+holding-requires : tie.Need-holding-requires
+holding-requires c κs = search needs
+
+-- src/state.rt:131:1
+same-length : tie.Need-same-length
+same-length c = search needs
+
+-- src/state.rt:131:1
+same-length-2 : tie.Need-same-length-2
+same-length-2 c = search needs
+
+-- src/state.rt:131:1
+returns : tie.Need-returns
+returns c = let s = c .before .before .before .before .before .step .ensures in (c .holding .ensures ∙ ap actedBy (s .0), s .1 .1, s .1 .0)
+
+pub step-spec : {M : Type 1} → statement M
+step-spec = tie.close (tie.spec step-requires holding-requires same-length same-length-2 returns)

@@ -1,0 +1,158 @@
+// The driver state by value: what a start and a step make of it. The methods that are lent the driver
+// take it apart and call these.
+ghost use mathlib.Core.Path.{_≡_};
+ghost use lib.ListN.{length};
+ghost use Rattle.zedboard_bsp.specs.Words.{topByte};
+ghost use Rattle.zedboard_bsp.specs.DeviceId.{baseBytes, extendedBytes, replyBytes, longReplyBytes};
+ghost use Rattle.qspi_operation.specs.Step.{dueOf, logOf, bufferOf, replyOf};
+ghost use Rattle.qspi_driver.specs.State.{begunOf, actedBy, steppedOf, progressOf, isUnderWay};
+use qspi_operation::Asked;
+use qspi_operation::Op;
+use qspi_operation::Reply;
+use qspi_operation::Stepped;
+use qspi_script::Status;
+use zedboard_bsp::qspi_spansion::device_id::BaseDeviceId;
+use zedboard_bsp::qspi_spansion::device_id::ExtendedDeviceId;
+use zedboard_bsp::qspi_spansion::words;
+
+// What the driver knows between two accesses: the operation at hand.
+pub struct State {
+    pub op: Op,
+}
+
+// What a start or a step answers.
+pub enum Answer {
+    // The status of the operation at hand.
+    Given(Status),
+    // A start while the operation at hand has not ended: nothing is changed.
+    Busy,
+}
+
+// The state after a start or a step, and its answer.
+pub struct Acted {
+    pub state: State,
+    pub answer: Answer,
+}
+
+// The answer so far: status, used counts (log words, replies), bytes programmed, and the last three
+// replies of a call that is done, of which a register's byte or an id is made.
+pub struct Progress {
+    pub status: Status,
+    pub used: usize,
+    pub replies: usize,
+    pub programmed: usize,
+    pub older: u32,
+    pub old: u32,
+    pub last: u32,
+}
+
+impl Progress {
+    // The byte of `read_status_register_1` or `read_configuration_register`.
+    pub fn register(self) -> u8
+        ensures byte { λ r. ⌜ r ≡ topByte (self .last) ⌝ }
+    {
+        words::top_byte(self.last)
+    }
+
+    // The id of `read_rdid_base`.
+    pub fn base_device_id(self) -> BaseDeviceId
+        ensures bytes { λ r. ⌜ baseBytes r ≡ replyBytes (self .last) ⌝ }
+    {
+        BaseDeviceId::from_reply(self.last)
+    }
+
+    // The id of `read_rdid_extended`.
+    pub fn extended_device_id(self) -> ExtendedDeviceId
+        ensures bytes { λ r. ⌜ extendedBytes r ≡ longReplyBytes (self .older) (self .old) (self .last) ⌝ }
+    {
+        ExtendedDeviceId::from_replies(self.older, self.old, self.last)
+    }
+}
+
+// Begins a call, unless one is under way.
+pub fn begin(state: State, op: Op) -> Acted
+    ensures acted { λ r. ⌜ r ≡ begunOf state op ⌝ }
+{
+    let at_hand = state.op;
+    let status = at_hand.status;
+    if qspi_operation::is_going(status) {
+        Acted {
+            state,
+            answer: Answer::Busy,
+        }
+    } else {
+        let status = op.status;
+        let next = State { op };
+        Acted {
+            state: next,
+            answer: Answer::Given(status),
+        }
+    }
+}
+
+// The access that is due.
+pub fn due(state: State, data: &[u8]) -> Asked
+    ensures due { λ r. ⌜ r ≡ dueOf (state .op) (now («data» .entry)) ⌝ }
+{
+    qspi_operation::due(state.op, data)
+}
+
+pub fn answer_so_far(state: State) -> Progress
+    ensures progress { λ r. ⌜ r ≡ progressOf (state .op) ⌝ }
+{
+    let op = state.op;
+    let status = op.status;
+    let wire = op.wire;
+    Progress {
+        status,
+        used: op.used,
+        replies: op.replies,
+        programmed: qspi_operation::programmed(op),
+        older: qspi_runs::kept(status, wire.older),
+        old: qspi_runs::kept(status, wire.old),
+        last: qspi_runs::kept(status, wire.last),
+    }
+}
+
+// The state that holds a stepped operation.
+fn holding(stepped: Stepped) -> Acted
+    ensures acted { λ r. ⌜ r ≡ actedBy stepped ⌝ }
+{
+    let op = stepped.op;
+    let status = stepped.answer;
+    let state = State { op };
+    Acted {
+        state,
+        answer: Answer::Given(status),
+    }
+}
+
+// A step of the operation at hand. A call without data or without a read buffer is lent an empty one.
+pub fn step(state: State, data: &[u8], buffer: &mut [u8], log: &mut [u32], reply: Reply) -> Acted
+    ensures acted { λ r. ⌜ (r ≡ steppedOf state (now («data» .entry)) (length (now (buffer .entry))) (length (now (log .entry))) reply) × (now (buffer .exit) ≡ bufferOf (state .op) (now («data» .entry)) (now (buffer .entry)) (length (now (log .entry))) reply) × (now (log .exit) ≡ logOf (state .op) (now («data» .entry)) (length (now (buffer .entry))) (now (log .entry)) reply) ⌝ }
+{
+    holding(qspi_operation::step(state.op, data, buffer, log, reply))
+}
+
+// The next one of the replies that was not used, or none.
+pub fn next_reply(state: State, replies: &[u32]) -> Reply
+    ensures reply { λ r. ⌜ r ≡ replyOf (now (replies .entry)) (state .op .replies) ⌝ }
+{
+    let op = state.op;
+    let at = op.replies;
+    if at < replies.len() {
+        Reply::Word(replies[at])
+    } else {
+        Reply::Nothing
+    }
+}
+
+// Whether a call is under way: a step is due.
+pub fn is_under_way(answer: Answer) -> bool
+    ensures way { λ r. ⌜ r ≡ isUnderWay answer ⌝ }
+{
+    match answer {
+        Answer::Given(status) => qspi_operation::is_going(status),
+        Answer::Busy => false,
+    }
+}
