@@ -34,6 +34,7 @@ module _ {M : Type 1} (𝓤 : URA M) (H : Heap 𝓤) (A : Atoms 𝓤) where
     pub get : row .Denot → S .row .Denot
     pub put : S .row .Denot → row .Denot
     pub tells : Tells row (Is row) (λ h. vstruct (vcons (S .val (get h)) vnil) ∷ [])
+    pub typed : (h : row .Denot) (v : Val) → Is row h (v ∷ []) → Holds (hasTy (tyStruct name (tcons (S .ty) tnil)) v) × WT v
     pub owed : (h : row .Denot) (v : Val) → Is row h (v ∷ []) → Is (S .row) (get h) (S .val (get h) ∷ [])
     pub owes : (x : S .row .Denot) → Is (S .row) x (S .val x ∷ []) → Is row (put x) (vstruct (vcons (S .val x) vnil) ∷ [])
     pub makes : Makes 𝓤 H A row (Is row)
@@ -51,3 +52,13 @@ module _ {M : Type 1} (𝓤 : URA M) (H : Heap 𝓤) (A : Atoms 𝓤) where
     pub typed : (r : row .Denot) (v : Val) → Is row r (v ∷ []) → Holds (hasTy (tyStruct name (tcons (S .ty) (tcons (N .ty) tnil))) v) × WT v
     pub owed-first : (r : row .Denot) (v : Val) → Is row r (v ∷ []) → Is (S .row) (first r) (S .val (first r) ∷ [])
     pub owed-second : (r : row .Denot) (v : Val) → Is row r (v ∷ []) → Is (N .row) (second r) (N .val (second r) ∷ [])
+
+  -- a struct of such a struct and another field, as it is returned
+  pub record Outcome (S N : Known) (D : Holder S) : Type 2 where
+    pub row : RattleType
+    pub name : Sym
+    pub make : D .row .Denot → N .row .Denot → row .Denot
+    pub typed : (r : row .Denot) (v : Val) → Is row r (v ∷ []) → Holds (hasTy (tyStruct name (tcons (tyStruct (D .name) (tcons (S .ty) tnil)) (tcons (N .ty) tnil))) v) × WT v
+    pub owes : (d : D .row .Denot) (a : N .row .Denot) → Is (D .row) d (vstruct (vcons (S .val (D .get d)) vnil) ∷ []) → Is (N .row) a (N .val a ∷ [])
+        → Is row (make d a) (vstruct (vcons (vstruct (vcons (S .val (D .get d)) vnil)) (vcons (N .val a) vnil)) ∷ [])
+    pub makes : Makes 𝓤 H A row (Is row)

@@ -1,7 +1,11 @@
 pub mod Known
 pub mod Types
 pub mod Stating
+pub mod Local
+pub mod Again
 pub mod ThinStart
 pub mod ThinStep
 pub mod ThinDue
 pub mod ThinAnswer
+pub mod Driving
+pub mod DriveWalk

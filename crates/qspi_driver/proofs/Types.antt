@@ -7,7 +7,7 @@ use ghost.Atoms.{Atoms}
 use types.Kit.{Given}
 use denote.Struct.Laws as LL
 use denote.Enum.Laws as EL
-use Rattle.qspi_driver.proofs.Known.{Known, Holder, Pair}
+use Rattle.qspi_driver.proofs.Known.{Known, Holder, Pair, Outcome}
 use Rattle.qspi_driver.specs.declared.QspiSpansionS25Fl256SIoMode.{QspiSpansionS25Fl256SIoMode}
 use Rattle.qspi_driver.specs.declared.state.State.{State}
 use Rattle.qspi_driver.specs.declared.state.Acted.{Acted}
@@ -21,6 +21,8 @@ use Rattle.qspi_driver.proofs.state.Answer as Answerᵀ
 use Rattle.qspi_driver.proofs.state.Answer.Laws as Answerᴸ
 use Rattle.qspi_driver.proofs.state.Progress as Progressᵀ
 use Rattle.qspi_driver.proofs.state.Progress.Laws as Progressᴸ
+use Rattle.qspi_driver.proofs.Driven as Drivenᵀ
+use Rattle.qspi_driver.proofs.Driven.Laws as Drivenᴸ
 use Rattle.qspi_operation.proofs.Asked as Askedᵀ
 use Rattle.qspi_operation.proofs.Asked.Laws as Askedᴸ
 use Rattle.qspi_operation.proofs.Op as Opᵀ
@@ -96,6 +98,7 @@ module _ {M : Type 1} (𝓤 : URA M) (H : Heap 𝓤) (A : Atoms 𝓤) (W : Given
     get = λ h. h .state;
     put = λ x. record { state = x };
     tells = LL.tells Driverᵀ.the-type Driverᴸ.the-laws;
+    typed = λ h v is. LL.lawful Driverᵀ.the-type Driverᴸ.the-laws 𝓤 H A W .typed h (v ∷ []) is .0;
     owed = λ h v is. LL.owed Driverᵀ.the-type Driverᴸ.the-laws h (v ∷ []) is .0;
     owes = λ x is. LL.owes Driverᵀ.the-type Driverᴸ.the-laws (record { state = x }) (is, tt);
     makes = LL.makes Driverᵀ.the-type Driverᴸ.the-plain 𝓤 H A;
@@ -114,4 +117,14 @@ module _ {M : Type 1} (𝓤 : URA M) (H : Heap 𝓤) (A : Atoms 𝓤) (W : Given
     typed = λ x v is. LL.lawful Actedᵀ.the-type Actedᴸ.the-laws 𝓤 H A W .typed x (v ∷ []) is .0;
     owed-first = λ r v is. LL.owed Actedᵀ.the-type Actedᴸ.the-laws r (v ∷ []) is .0;
     owed-second = λ r v is. LL.owed Actedᵀ.the-type Actedᴸ.the-laws r (v ∷ []) is .1 .0;
+  }
+
+  abbrev pub driven : Outcome 𝓤 H A state answer driver
+  driven = record {
+    row = Drivenᵀ.the-row;
+    name = Drivenᵀ.struct .name;
+    make = λ d a. record { driver = d; answer = a };
+    typed = λ x v is. LL.lawful Drivenᵀ.the-type Drivenᴸ.the-laws 𝓤 H A W .typed x (v ∷ []) is .0;
+    owes = λ d a f g. LL.owes Drivenᵀ.the-type Drivenᴸ.the-laws (record { driver = d; answer = a }) (f, (g, tt));
+    makes = LL.makes Drivenᵀ.the-type Drivenᴸ.the-plain 𝓤 H A;
   }

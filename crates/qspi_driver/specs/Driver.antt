@@ -22,3 +22,24 @@ driverOf s = record { state = s }
 -- no operation at hand: an empty read has ended at its start
 abbrev pub idle : Driver
 idle = driverOf (holds (readOf 0 false false 0 0))
+
+-- ---- a whole call
+
+-- what a whole call hands back and leaves in the lent memory
+pub record Drive : Type 0 where
+  pub driver : Driver
+  pub answer : Answer
+  pub buffer : List ℕ
+  pub log : List ℕ
+
+-- the end of a run
+abbrev pub reached : Run → Drive
+reached e = record { driver = driverOf (holds (e .op)); answer = Given (e .answer); buffer = e .buffer; log = e .log }
+
+-- a call that is begun while another is under way changes nothing; any other is run to its end
+abbrev pub drivenIf : Bool → Driver → Run → List ℕ → List ℕ → Drive
+drivenIf true d e buffer log = record { driver = d; answer = Busy; buffer = buffer; log = log }
+drivenIf false d e buffer log = reached e
+
+abbrev pub drivenOf : Driver → Op → List ℕ → List ℕ → List ℕ → List ℕ → Drive
+drivenOf d o bytes replies buffer log = drivenIf (isGoing (d .state .op .status)) d (runOf o bytes replies buffer log) buffer log

@@ -4,7 +4,7 @@ ghost use mathlib.Core.Path.{_≡_};
 ghost use lib.ListN.{length};
 ghost use Rattle.qspi_operation.specs.Step.{dueOf, logOf, bufferOf};
 ghost use Rattle.qspi_driver.specs.State.{begunOf, steppedOf, progressOf};
-ghost use Rattle.qspi_driver.specs.Driver.{idle, driverOf};
+ghost use Rattle.qspi_driver.specs.Driver.{idle, driverOf, drivenOf};
 use crate::state::Answer;
 use crate::state::Progress;
 use crate::state::State;
@@ -70,5 +70,38 @@ impl QspiSpansionS25Fl256SIoMode {
         let s = state::step(state, data, buffer, log, reply);
         self.state = s.state;
         s.answer
+    }
+}
+
+// The driver after a whole call, and what the call answered.
+pub struct Driven {
+    pub driver: QspiSpansionS25Fl256SIoMode,
+    pub answer: Answer,
+}
+
+// A whole call through the methods: `op` is started and stepped to its end, the replies in order. A caller
+// that has the driver by value needs no proof by hand.
+pub fn drive(
+    driver: QspiSpansionS25Fl256SIoMode,
+    op: Op,
+    data: &[u8],
+    buffer: &mut [u8],
+    log: &mut [u32],
+    replies: &[u32],
+) -> Driven
+    ensures driver { λ r. ⌜ r .driver ≡ drivenOf driver op (now («data» .entry)) (now (replies .entry)) (now (buffer .entry)) (now (log .entry)) .driver ⌝ }
+    ensures answer { λ r. ⌜ r .answer ≡ drivenOf driver op (now («data» .entry)) (now (replies .entry)) (now (buffer .entry)) (now (log .entry)) .answer ⌝ }
+    ensures stored { λ _. ⌜ now (buffer .exit) ≡ drivenOf driver op (now («data» .entry)) (now (replies .entry)) (now (buffer .entry)) (now (log .entry)) .buffer ⌝ }
+    ensures logged { λ _. ⌜ now (log .exit) ≡ drivenOf driver op (now («data» .entry)) (now (replies .entry)) (now (buffer .entry)) (now (log .entry)) .log ⌝ }
+{
+    let mut lent = driver;
+    let mut answer = lent.start(op);
+    while state::is_under_way(answer) {
+        let reply = state::next_reply(lent.state, replies);
+        answer = lent.step(data, buffer, log, reply);
+    }
+    Driven {
+        driver: lent,
+        answer,
     }
 }
