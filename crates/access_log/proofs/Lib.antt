@@ -8,4 +8,10 @@ pub mod RoundTrip
 pub mod Bytes
 pub mod Parts
 pub mod Answers
+pub mod Clauses
+pub mod Lend
+pub mod Finding
+pub mod Leading
+pub mod Reading
+pub mod Counting
 pub mod Examples

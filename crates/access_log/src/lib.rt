@@ -8,9 +8,14 @@ use zynq7000::qspi::Access;
 use zynq7000::qspi::Record;
 
 mod printer;
+mod reader;
 
 pub use printer::Rendered;
 pub use printer::render;
+pub use reader::Found;
+pub use reader::LogReader;
+pub use reader::accesses;
+pub use reader::found_at;
 
 // What stands at a place of a log.
 pub enum Entry {
