@@ -11,7 +11,7 @@ use Rattle.zynq7000.specs.Access.{recordOf}
 use Rattle.zynq7000.specs.Number.{Refusal, accepted, refusedWith}
 use Rattle.access_log.specs.declared.Entry.{Entry}
 use Rattle.access_log.specs.declared.Entry.the-variants as entry
-use Rattle.access_log.specs.Log.{answerOf, entryOf, placed, entryAt, wordAt, entryIn, recordAnswer, placedAnswer, answerAt, answerIn}
+use Rattle.access_log.specs.Log.{answerOf, entryOf, placed, entryAt, recordAnswer, placedAnswer, answerAt}
 
 -- an access that is read has the record's two words as its own
 module _ (first v at : ℕ) where
@@ -44,13 +44,6 @@ pub answer-at : (log : List ℕ) (at : ℕ) (r : Entry) → r ≡ entryAt log at
 unfolding entryAt answerAt
 answer-at log at r e = ap answerOf e ∙ placed-answer 2 (length log) at (getD log (at * 2) 0) (getD log (at * 2 + 1) 0)
 
-pub answer-in : (bytes : List ℕ) (at : ℕ) (r : Entry) → r ≡ entryIn bytes at → answerOf r ≡ answerIn bytes at
-unfolding entryIn answerIn
-answer-in bytes at r e = ap answerOf e ∙ placed-answer 8 (length bytes) at (wordAt bytes (at * 8)) (wordAt bytes (at * 8 + 4))
-
 -- both promises from the first
 pub both-at : (log : List ℕ) (at : ℕ) (r : Entry) → r ≡ entryAt log at → (r ≡ entryAt log at) × (answerOf r ≡ answerAt log at)
 both-at log at r e = (e, answer-at log at r e)
-
-pub both-in : (bytes : List ℕ) (at : ℕ) (r : Entry) → r ≡ entryIn bytes at → (r ≡ entryIn bytes at) × (answerOf r ≡ answerIn bytes at)
-both-in bytes at r e = (e, answer-in bytes at r e)

@@ -7,8 +7,8 @@ use lib.ListN.{length}
 use native.Mathlib.Omega.{arith}
 use native.Mathlib.Numerals.{add-one}
 use Rattle.access_log.specs.declared.Entry.{Entry}
-use Rattle.access_log.specs.Log.{entryAt}
-use Rattle.access_log.specs.Reader.{isAccess, foundAt, firstOther, accessesIn}
+use Rattle.access_log.specs.Log.{isAccess, entryAt}
+use Rattle.access_log.specs.Reader.{foundAt, firstOther, accessesIn}
 use Rattle.access_log.proofs.Leading.{first-on, first-stops}
 use Rattle.access_log.proofs.Finding.{found-entry, access-within}
 

@@ -28,10 +28,10 @@ pub loggable-accesses : Loggable (Read 0x04 0x10 ∷ Write 0x80 0x06 ∷ [])
 loggable-accesses = (record { fourth = refl; byte = omega arith }, (record { fourth = refl; byte = omega arith }, tt))
 
 -- of `text-of-parts` and of `text-stops`: a record that is an access, and one that is none
-pub all-accesses : allAccesses 1 (bytesOf (0x80 ∷ 0x06 ∷ [])) 0 ≡ true
+pub all-accesses : allAccesses 1 (entryIn (bytesOf (0x80 ∷ 0x06 ∷ []))) 0 ≡ true
 unfolding allAccesses entryIn bytesOf
 all-accesses = refl
 
-pub not-all-accesses : allAccesses 1 (bytesOf (0x82 ∷ 0x06 ∷ [])) 0 ≡ false
+pub not-all-accesses : allAccesses 1 (entryIn (bytesOf (0x82 ∷ 0x06 ∷ []))) 0 ≡ false
 unfolding allAccesses entryIn bytesOf
 not-all-accesses = refl

@@ -7,11 +7,12 @@ use lib.Dec.{ltb}
 use lib.ListN.{length}
 use native.Mathlib.Omega.{arith}
 use borrow.Author.Tests.{ltb-true, ltb-false}
+use Rattle.zynq7000.specs.declared.qspi.Access.{Access}
 use Rattle.access_log.specs.declared.Entry.{Entry}
 use Rattle.access_log.specs.declared.Entry.the-variants as entry
 use Rattle.access_log.specs.declared.reader.Found.{Found}
-use Rattle.access_log.specs.Log.{entryAt}
-use Rattle.access_log.specs.Reader.{isAccess, foundAt}
+use Rattle.access_log.specs.Log.{isAccess, entryAt}
+use Rattle.access_log.specs.Reader.{foundAt}
 use Rattle.access_log.proofs.Places.{at-end}
 
 module _ (log : List ℕ) (at : ℕ) where
@@ -33,8 +34,19 @@ module _ (log : List ℕ) (at : ℕ) where
   pub next-stays : isAccess (entryAt log at) ≡ false → foundAt log at .next ≡ at
   next-stays a = sym (ap (λ (f : Found). f .next) (found-stays (entryAt log at) refl a))
 
-end-none : (e : Entry) → e ≡ entry.End → isAccess e ≡ true → ⊥
-end-none e h a =
+-- an entry of one kind is none of another
+pub end-none : (e : Entry) → isAccess e ≡ true → e ≡ entry.End → ⊥
+end-none e a h =
+    let z : _≡_ {A = ℕ} 0 1 = cc in
+    omega arith
+
+pub bad-none : (e : Entry) (k : ℕ) → isAccess e ≡ true → e ≡ entry.BadLog k → ⊥
+bad-none e k a h =
+    let z : _≡_ {A = ℕ} 0 1 = cc in
+    omega arith
+
+pub access-none : (e : Entry) (x : Access) → isAccess e ≡ false → e ≡ entry.Access x → ⊥
+access-none e x a h =
     let z : _≡_ {A = ℕ} 0 1 = cc in
     omega arith
 
@@ -44,4 +56,4 @@ access-within log at e h a = by-test (ltb (at * 2) (length log)) refl
   where
     by-test : (b : Bool) → ltb (at * 2) (length log) ≡ b → at * 2 < length log
     by-test true f = ltb-true (at * 2) (length log) f
-    by-test false f = absurd (end-none e (h ∙ at-end log at (ltb-false (at * 2) (length log) f)) a)
+    by-test false f = absurd (end-none e a (h ∙ at-end log at (ltb-false (at * 2) (length log) f)))

@@ -12,8 +12,8 @@ use Rattle.zynq7000.specs.Access.{encode, Loggable}
 use Rattle.zynq7000.specs.declared.qspi.Access.{Access}
 use Rattle.zynq7000.specs.declared.qspi.Access.the-variants.{Write}
 use Rattle.access_log.specs.declared.Entry.{Entry}
-use Rattle.access_log.specs.Log.{entryAt}
-use Rattle.access_log.specs.Reader.{isAccess, firstOther, accessesIn}
+use Rattle.access_log.specs.Log.{isAccess, entryAt}
+use Rattle.access_log.specs.Reader.{firstOther, accessesIn}
 use Rattle.access_log.proofs.Finding.{access-within}
 use Rattle.access_log.proofs.Places.{at-end}
 use Rattle.access_log.proofs.RoundTrip.{reads-back, reads-end}

@@ -6,6 +6,7 @@ pub mod Lines
 pub mod Rendering
 pub mod RoundTrip
 pub mod Bytes
+pub mod Packing
 pub mod Parts
 pub mod Answers
 pub mod Clauses

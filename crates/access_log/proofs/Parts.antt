@@ -1,7 +1,7 @@
 -- The text of a log from its parts: a printer may go buffer by buffer. Assumes nothing.
 use Prim.Native.Nat.{ℕ, zero, suc, _+_, _*_, _/_, _%_, _^_, _<_, _≤_}
 use mathlib.Core.Path.{_≡_, refl, sym, ap, _∙_}
-use mathlib.Core.Bool.{Bool, true, false}
+use mathlib.Core.Bool.{Bool, true, false, cond}
 use mathlib.Core.List.{List, _++_, append-assoc}
 use lib.Dec.{ltb}
 use lib.ListN.{length, getD, length-append, List·getD-append}
@@ -15,8 +15,8 @@ use Rattle.zynq7000.specs.declared.qspi.Record.{Record}
 use Rattle.zynq7000.specs.declared.qspi.Record.the-variants as record-of
 use Rattle.access_log.specs.declared.Entry.{Entry}
 use Rattle.access_log.specs.declared.Entry.the-variants as entry
-use Rattle.access_log.specs.Log.{entryOf, entryIn, wordAt}
-use Rattle.access_log.specs.Text.{lineOf, badLine, lineThen, textOf, logText, isAccessAnd, allAccesses}
+use Rattle.access_log.specs.Log.{isAccess, entryOf, entryIn, wordAt}
+use Rattle.access_log.specs.Text.{lineOf, badLine, lineThen, textOf, logText, allAccesses}
 use Rattle.access_log.proofs.Bytes.{word-moved}
 use Rattle.access_log.proofs.Places.{in-whole, in-short, in-end}
 use Rattle.access_log.proofs.Stream.{text-none, text-next, text-end, all-none, all-next}
@@ -24,15 +24,15 @@ use Rattle.access_log.proofs.Stream.{text-none, text-next, text-end, al
 -- ---- more records than there are change nothing
 
 pub enough : (n more : ℕ) (bytes : List ℕ) (first at : ℕ) → length bytes ≤ (at + n) * 8
-    → textOf (n + more) bytes first at ≡ textOf n bytes first at
+    → textOf (n + more) (entryIn bytes) first at ≡ textOf n (entryIn bytes) first at
 enough zero zero bytes first at h = refl
 enough zero (suc more) bytes first at h =
-    ap (λ (n : ℕ). textOf n bytes first at) (zero-add (suc more))
-    ∙ (text-end more bytes first at (in-end bytes at (omega arith)) ∙ sym (text-none bytes first at))
+    ap (λ (n : ℕ). textOf n (entryIn bytes) first at) (zero-add (suc more))
+    ∙ (text-end more (entryIn bytes) first at (in-end bytes at (omega arith)) ∙ sym (text-none (entryIn bytes) first at))
 enough (suc n) more bytes first at h =
-    ap (λ (k : ℕ). textOf k bytes first at) (suc-add n more)
-    ∙ (text-next (n + more) bytes first at
-    ∙ (ap (lineThen (entryIn bytes at) first) (enough n more bytes first (suc at) (omega arith)) ∙ sym (text-next n bytes first at)))
+    ap (λ (k : ℕ). textOf k (entryIn bytes) first at) (suc-add n more)
+    ∙ (text-next (n + more) (entryIn bytes) first at
+    ∙ (ap (lineThen (entryIn bytes at) first) (enough n more bytes first (suc at) (omega arith)) ∙ sym (text-next n (entryIn bytes) first at)))
 
 -- ---- entries of a log in two parts
 
@@ -104,94 +104,94 @@ false-true e =
     omega arith
 
 -- where an entry is an access, its line stands before what follows, and the rest are accesses too
-line-then-on : (e : Entry) (rest : Bool) → isAccessAnd e rest ≡ true → (first : ℕ) (x y : List ℕ)
+line-then-on : (e : Entry) (rest : Bool) → cond (isAccess e) rest false ≡ true → (first : ℕ) (x y : List ℕ)
     → lineThen e first (x ++ y) ≡ lineThen e first x ++ y
 line-then-on (entry.Access a) rest h first x y = sym (append-assoc (lineOf a) x y)
 line-then-on entry.End rest h first x y = absurd (false-true h)
 line-then-on (entry.BadLog at) rest h first x y = absurd (false-true h)
 
-rest-all : (e : Entry) (rest : Bool) → isAccessAnd e rest ≡ true → rest ≡ true
+rest-all : (e : Entry) (rest : Bool) → cond (isAccess e) rest false ≡ true → rest ≡ true
 rest-all (entry.Access a) rest h = h
 rest-all entry.End rest h = absurd (false-true h)
 rest-all (entry.BadLog at) rest h = absurd (false-true h)
 
 -- past an entry that is no access nothing is printed
-line-then-same : (e : Entry) (rest : Bool) (first : ℕ) (x y : List ℕ) → isAccessAnd e rest ≡ false → (rest ≡ false → x ≡ y)
+line-then-same : (e : Entry) (rest : Bool) (first : ℕ) (x y : List ℕ) → cond (isAccess e) rest false ≡ false → (rest ≡ false → x ≡ y)
     → lineThen e first x ≡ lineThen e first y
 line-then-same (entry.Access a) rest first x y h f = ap (λ (l : List ℕ). lineOf a ++ l) (f h)
 line-then-same entry.End rest first x y h f = refl
 line-then-same (entry.BadLog at) rest first x y h f = refl
 
 module _ (m : ℕ) (a b : List ℕ) (whole : length a ≡ m * 8) (first : ℕ) where
-  second-text : (count at : ℕ) → textOf count (a ++ b) first (m + at) ≡ textOf count b ((first + m) % 2 ^ 64) at
-  second-text zero at = text-none (a ++ b) first (m + at) ∙ sym (text-none b ((first + m) % 2 ^ 64) at)
+  second-text : (count at : ℕ) → textOf count (entryIn (a ++ b)) first (m + at) ≡ textOf count (entryIn b) ((first + m) % 2 ^ 64) at
+  second-text zero at = text-none (entryIn (a ++ b)) first (m + at) ∙ sym (text-none (entryIn b) ((first + m) % 2 ^ 64) at)
   second-text (suc count) at =
-      text-next count (a ++ b) first (m + at)
-      ∙ (ap (λ (e : Entry). lineThen e first (textOf count (a ++ b) first (suc (m + at)))) (second m a b whole at)
-      ∙ (line-raised m first (entryIn b at) (textOf count (a ++ b) first (suc (m + at)))
-      ∙ (ap (λ (n : ℕ). lineThen (entryIn b at) ((first + m) % 2 ^ 64) (textOf count (a ++ b) first n)) (sym (add-suc m at))
+      text-next count (entryIn (a ++ b)) first (m + at)
+      ∙ (ap (λ (e : Entry). lineThen e first (textOf count (entryIn (a ++ b)) first (suc (m + at)))) (second m a b whole at)
+      ∙ (line-raised m first (entryIn b at) (textOf count (entryIn (a ++ b)) first (suc (m + at)))
+      ∙ (ap (λ (n : ℕ). lineThen (entryIn b at) ((first + m) % 2 ^ 64) (textOf count (entryIn (a ++ b)) first n)) (sym (add-suc m at))
       ∙ (ap (lineThen (entryIn b at) ((first + m) % 2 ^ 64)) (second-text count (suc at))
-      ∙ sym (text-next count b ((first + m) % 2 ^ 64) at)))))
+      ∙ sym (text-next count (entryIn b) ((first + m) % 2 ^ 64) at)))))
 
   -- from place `at` of the first part on, where `left` records of it are left, all of them accesses
-  from-place : (count left at : ℕ) → at + left ≡ m → allAccesses left a at ≡ true
-      → textOf (left + count) (a ++ b) first at ≡ textOf left a first at ++ textOf count b ((first + m) % 2 ^ 64) 0
+  from-place : (count left at : ℕ) → at + left ≡ m → allAccesses left (entryIn a) at ≡ true
+      → textOf (left + count) (entryIn (a ++ b)) first at ≡ textOf left (entryIn a) first at ++ textOf count (entryIn b) ((first + m) % 2 ^ 64) 0
   from-place count zero at e all =
       let here : at ≡ m + 0 = omega arith in
-      ap (λ (n : ℕ). textOf n (a ++ b) first at) (zero-add count)
-      ∙ (ap (textOf count (a ++ b) first) here
-      ∙ (second-text count 0 ∙ ap (λ (l : List ℕ). l ++ textOf count b ((first + m) % 2 ^ 64) 0) (sym (text-none a first at))))
+      ap (λ (n : ℕ). textOf n (entryIn (a ++ b)) first at) (zero-add count)
+      ∙ (ap (textOf count (entryIn (a ++ b)) first) here
+      ∙ (second-text count 0 ∙ ap (λ (l : List ℕ). l ++ textOf count (entryIn b) ((first + m) % 2 ^ 64) 0) (sym (text-none (entryIn a) first at))))
   from-place count (suc left) at e all =
-      let rest : Bool = allAccesses left a (suc at) in
-      let here : isAccessAnd (entryIn a at) rest ≡ true = sym (all-next left a at) ∙ all in
-      ap (λ (n : ℕ). textOf n (a ++ b) first at) (suc-add left count)
-      ∙ (text-next (left + count) (a ++ b) first at
-      ∙ (ap (λ (x : Entry). lineThen x first (textOf (left + count) (a ++ b) first (suc at))) (in-first m a b whole at (omega arith))
+      let rest : Bool = allAccesses left (entryIn a) (suc at) in
+      let here : cond (isAccess (entryIn a at)) rest false ≡ true = sym (all-next left (entryIn a) at) ∙ all in
+      ap (λ (n : ℕ). textOf n (entryIn (a ++ b)) first at) (suc-add left count)
+      ∙ (text-next (left + count) (entryIn (a ++ b)) first at
+      ∙ (ap (λ (x : Entry). lineThen x first (textOf (left + count) (entryIn (a ++ b)) first (suc at))) (in-first m a b whole at (omega arith))
       ∙ (ap (lineThen (entryIn a at) first) (from-place count left (suc at) (omega arith) (rest-all (entryIn a at) rest here))
-      ∙ (line-then-on (entryIn a at) rest here first (textOf left a first (suc at)) (textOf count b ((first + m) % 2 ^ 64) 0)
-      ∙ ap (λ (l : List ℕ). l ++ textOf count b ((first + m) % 2 ^ 64) 0) (sym (text-next left a first at))))))
+      ∙ (line-then-on (entryIn a at) rest here first (textOf left (entryIn a) first (suc at)) (textOf count (entryIn b) ((first + m) % 2 ^ 64) 0)
+      ∙ ap (λ (l : List ℕ). l ++ textOf count (entryIn b) ((first + m) % 2 ^ 64) 0) (sym (text-next left (entryIn a) first at))))))
 
   -- the same where a record that is left is no access: what follows the first part is not printed
-  from-bad : (count left at : ℕ) → at + left ≡ m → allAccesses left a at ≡ false
-      → textOf (left + count) (a ++ b) first at ≡ textOf left a first at
-  from-bad count zero at e some = absurd (false-true (sym some ∙ all-none a at))
+  from-bad : (count left at : ℕ) → at + left ≡ m → allAccesses left (entryIn a) at ≡ false
+      → textOf (left + count) (entryIn (a ++ b)) first at ≡ textOf left (entryIn a) first at
+  from-bad count zero at e some = absurd (false-true (sym some ∙ all-none (entryIn a) at))
   from-bad count (suc left) at e some =
-      let rest : Bool = allAccesses left a (suc at) in
-      let here : isAccessAnd (entryIn a at) rest ≡ false = sym (all-next left a at) ∙ some in
-      ap (λ (n : ℕ). textOf n (a ++ b) first at) (suc-add left count)
-      ∙ (text-next (left + count) (a ++ b) first at
-      ∙ (ap (λ (x : Entry). lineThen x first (textOf (left + count) (a ++ b) first (suc at))) (in-first m a b whole at (omega arith))
-      ∙ (line-then-same (entryIn a at) rest first (textOf (left + count) (a ++ b) first (suc at)) (textOf left a first (suc at)) here
+      let rest : Bool = allAccesses left (entryIn a) (suc at) in
+      let here : cond (isAccess (entryIn a at)) rest false ≡ false = sym (all-next left (entryIn a) at) ∙ some in
+      ap (λ (n : ℕ). textOf n (entryIn (a ++ b)) first at) (suc-add left count)
+      ∙ (text-next (left + count) (entryIn (a ++ b)) first at
+      ∙ (ap (λ (x : Entry). lineThen x first (textOf (left + count) (entryIn (a ++ b)) first (suc at))) (in-first m a b whole at (omega arith))
+      ∙ (line-then-same (entryIn a at) rest first (textOf (left + count) (entryIn (a ++ b)) first (suc at)) (textOf left (entryIn a) first (suc at)) here
       (λ f. from-bad count left (suc at) (omega arith) f)
-      ∙ sym (text-next left a first at))))
+      ∙ sym (text-next left (entryIn a) first at))))
 
-  as-whole : textOf m a first 0 ≡ logText a first
+  as-whole : textOf m (entryIn a) first 0 ≡ logText a first
   unfolding logText
   as-whole =
       let long : m + m * 7 ≡ length a = omega arith in
-      sym (enough m (m * 7) a first 0 (omega arith)) ∙ ap (λ (n : ℕ). textOf n a first 0) long
+      sym (enough m (m * 7) a first 0 (omega arith)) ∙ ap (λ (n : ℕ). textOf n (entryIn a) first 0) long
 
   -- THEOREM. Where the first part is whole records, all of them accesses, the text of a log is that of its first part, followed by
   -- that of the second, numbered from where the first ends.
-  pub text-of-parts : allAccesses m a 0 ≡ true → logText (a ++ b) first ≡ logText a first ++ logText b ((first + m) % 2 ^ 64)
+  pub text-of-parts : allAccesses m (entryIn a) 0 ≡ true → logText (a ++ b) first ≡ logText a first ++ logText b ((first + m) % 2 ^ 64)
   unfolding logText
   text-of-parts all =
       let long : length (a ++ b) ≡ m + (length b + m * 7) = omega (arith, length-append a b) in
-      ap (λ (n : ℕ). textOf n (a ++ b) first 0) long
+      ap (λ (n : ℕ). textOf n (entryIn (a ++ b)) first 0) long
       ∙ (from-place (length b + m * 7) m 0 (zero-add m) all
-      ∙ (ap (λ (l : List ℕ). l ++ textOf (length b + m * 7) b ((first + m) % 2 ^ 64) 0) as-whole
+      ∙ (ap (λ (l : List ℕ). l ++ textOf (length b + m * 7) (entryIn b) ((first + m) % 2 ^ 64) 0) as-whole
       ∙ ap (λ (l : List ℕ). logText a first ++ l) (enough (length b) (m * 7) b ((first + m) % 2 ^ 64) 0 (omega arith))))
 
   -- THEOREM. Where the first part is whole records and one of them is no access, the text is that of the first part.
-  pub text-stops : allAccesses m a 0 ≡ false → logText (a ++ b) first ≡ logText a first
+  pub text-stops : allAccesses m (entryIn a) 0 ≡ false → logText (a ++ b) first ≡ logText a first
   unfolding logText
   text-stops some =
       let long : length (a ++ b) ≡ m + (length b + m * 7) = omega (arith, length-append a b) in
-      ap (λ (n : ℕ). textOf n (a ++ b) first 0) long ∙ (from-bad (length b + m * 7) m 0 (zero-add m) some ∙ as-whole)
+      ap (λ (n : ℕ). textOf n (entryIn (a ++ b)) first 0) long ∙ (from-bad (length b + m * 7) m 0 (zero-add m) some ∙ as-whole)
 
 -- THEOREM. What `render` writes of a buffer of up to 512 records is the buffer's text.
-pub text-of-buffer : (bytes : List ℕ) (first : ℕ) → length bytes ≤ 4096 → textOf 512 bytes first 0 ≡ logText bytes first
+pub text-of-buffer : (bytes : List ℕ) (first : ℕ) → length bytes ≤ 4096 → textOf 512 (entryIn bytes) first 0 ≡ logText bytes first
 unfolding logText
 text-of-buffer bytes first h =
     sym (enough 512 (length bytes) bytes first 0 (omega arith))
-    ∙ (ap (λ (n : ℕ). textOf n bytes first 0) (add-comm 512 (length bytes)) ∙ enough (length bytes) 512 bytes first 0 (omega arith))
+    ∙ (ap (λ (n : ℕ). textOf n (entryIn bytes) first 0) (add-comm 512 (length bytes)) ∙ enough (length bytes) 512 bytes first 0 (omega arith))

@@ -11,8 +11,8 @@ use Rattle.zynq7000.specs.declared.qspi.Access.{Access}
 use Rattle.zynq7000.specs.declared.qspi.Access.the-variants.{Write}
 use Rattle.access_log.specs.declared.Entry.the-variants as entry
 use Rattle.access_log.specs.declared.reader.LogReader.{LogReader}
-use Rattle.access_log.specs.Log.{entryAt}
-use Rattle.access_log.specs.Reader.{isAccess, nextOf, readOf, readTimes}
+use Rattle.access_log.specs.Log.{isAccess, entryAt}
+use Rattle.access_log.specs.Reader.{nextOf, readOf, readTimes}
 use Rattle.access_log.proofs.Leading.{written-before}
 use Rattle.access_log.proofs.Finding.{found-entry, next-on, next-stays}
 use Rattle.access_log.proofs.RoundTrip.{reads-back, reads-end}

@@ -1,7 +1,7 @@
 -- What stands at a place of a log: document 01, "Log and printer", and rule 13 of "What the input can bring on". A place is a record's
 -- number from 0; a record is two words, or their eight bytes, low byte first.
-use Prim.Native.Nat.{ℕ, _+_, _*_, _/_, _%_}
-use mathlib.Core.Bool.{cond}
+use Prim.Native.Nat.{ℕ, _+_, _*_, _/_, _%_, _<_, _≤_}
+use mathlib.Core.Bool.{Bool, true, false, cond}
 use mathlib.Core.List.{List, [], _∷_}
 use lib.Dec.{eqb, leb, ltb}
 use lib.ListN.{length, getD}
@@ -18,6 +18,11 @@ abbrev pub answerOf : Entry → Answer
 answerOf (entry.Access a) = accepted (firstWord a ∷ valueWord a ∷ [])
 answerOf entry.End = accepted []
 answerOf (entry.BadLog at) = refusedWith Refusal.BadLog (at ∷ [])
+
+abbrev pub isAccess : Entry → Bool
+isAccess (entry.Access a) = true
+isAccess entry.End = false
+isAccess (entry.BadLog at) = false
 
 -- a whole record, at its place
 abbrev pub entryOf : Record → ℕ → Entry
@@ -43,7 +48,14 @@ wordAt bytes i =
 unfoldable pub entryIn : List ℕ → ℕ → Entry
 entryIn bytes at = placed 8 (length bytes) at (recordOf (wordAt bytes (at * 8)) (wordAt bytes (at * 8 + 4)))
 
--- the same in 01's numbers: 13 with the place, or 0 with the record's two words, or 0 alone past the end
+-- a place has a whole record, or the start of one, in so many words where it has in so many bytes
+pub record SamePlace (words bytes at : ℕ) : Type 0 where
+  pub whole : at * 8 + 8 ≤ bytes → at * 2 + 2 ≤ words
+  pub short : bytes < at * 8 + 8 → words < at * 2 + 2
+  pub begun : at * 8 < bytes → at * 2 < words
+  pub none : bytes ≤ at * 8 → words ≤ at * 2
+
+-- of a log of words, the same in 01's numbers: 13 with the place, or 0 with the record's two words, or 0 alone past the end
 abbrev pub recordAnswer : ℕ → ℕ → ℕ → Answer
 recordAnswer first v at =
     cond (ltb 0x1FC first) (refusedWith Refusal.BadLog (at ∷ []))
@@ -56,9 +68,6 @@ placedAnswer size len at whole =
 
 unfoldable pub answerAt : List ℕ → ℕ → Answer
 answerAt log at = placedAnswer 2 (length log) at (recordAnswer (getD log (at * 2) 0) (getD log (at * 2 + 1) 0) at)
-
-unfoldable pub answerIn : List ℕ → ℕ → Answer
-answerIn bytes at = placedAnswer 8 (length bytes) at (recordAnswer (wordAt bytes (at * 8)) (wordAt bytes (at * 8 + 4)) at)
 
 -- the little-endian bytes of words
 unfoldable pub bytesOf : List ℕ → List ℕ

@@ -1,20 +1,14 @@
 -- A reader of a log of words: document 01, "For the log printer a reader keeps the lent log and its place together", "with one thin method
 -- giving the next access". What it does behind the end or 13 is left open there: it stays, and gives the same again.
 use Prim.Native.Nat.{ℕ, zero, suc, _+_}
-use mathlib.Core.Bool.{Bool, true, false, cond}
+use mathlib.Core.Bool.{cond}
 use mathlib.Core.List.{List}
 use lib.ListN.{length}
 use denote.Ref.{now}
 use Rattle.access_log.specs.declared.Entry.{Entry}
-use Rattle.access_log.specs.declared.Entry.the-variants as entry
 use Rattle.access_log.specs.declared.reader.Found.{Found}
 use Rattle.access_log.specs.declared.reader.LogReader.{LogReader}
-use Rattle.access_log.specs.Log.{entryAt}
-
-abbrev pub isAccess : Entry → Bool
-isAccess (entry.Access a) = true
-isAccess entry.End = false
-isAccess (entry.BadLog at) = false
+use Rattle.access_log.specs.Log.{isAccess, entryAt}
 
 -- the entry at a place, and the place that is read next
 unfoldable pub foundAt : List ℕ → ℕ → Found

@@ -9,7 +9,7 @@ use Rattle.zynq7000.specs.declared.qspi.Access.{Access}
 use Rattle.zynq7000.specs.declared.qspi.Access.the-variants.{Read, Write}
 use Rattle.access_log.specs.declared.Entry.{Entry}
 use Rattle.access_log.specs.declared.Entry.the-variants as entry
-use Rattle.access_log.specs.Log.{entryIn}
+use Rattle.access_log.specs.Log.{isAccess, entryIn}
 
 -- `0` to `9`, then `A` to `F`
 abbrev pub hexDigit : ℕ → ℕ
@@ -50,24 +50,19 @@ lineThen (entry.Access a) first rest = lineOf a ++ rest
 lineThen entry.End first rest = []
 lineThen (entry.BadLog at) first rest = badLine ((first + at) % 2 ^ 64)
 
--- the text of at most `count` records from place `at` on, where place 0 has the number `first`
-unfoldable pub textOf : ℕ → List ℕ → ℕ → ℕ → List ℕ
-textOf zero bytes first at = []
-textOf (suc count) bytes first at = lineThen (entryIn bytes at) first (textOf count bytes first (suc at))
+-- the text of at most `count` records from place `at` on, by the entry at each place; place 0 has the number `first`
+unfoldable pub textOf : ℕ → (ℕ → Entry) → ℕ → ℕ → List ℕ
+textOf zero entries first at = []
+textOf (suc count) entries first at = lineThen (entries at) first (textOf count entries first (suc at))
 
--- the text of a whole log, which has no more records than bytes
+-- the text of a whole log of bytes, which has no more records than bytes
 unfoldable pub logText : List ℕ → ℕ → List ℕ
-logText bytes first = textOf (length bytes) bytes first 0
-
-abbrev pub isAccessAnd : Entry → Bool → Bool
-isAccessAnd (entry.Access a) rest = rest
-isAccessAnd entry.End rest = false
-isAccessAnd (entry.BadLog at) rest = false
+logText bytes first = textOf (length bytes) (entryIn bytes) first 0
 
 -- whether `count` records from place `at` on are all accesses
-unfoldable pub allAccesses : ℕ → List ℕ → ℕ → Bool
-allAccesses zero bytes at = true
-allAccesses (suc count) bytes at = isAccessAnd (entryIn bytes at) (allAccesses count bytes (suc at))
+unfoldable pub allAccesses : ℕ → (ℕ → Entry) → ℕ → Bool
+allAccesses zero entries at = true
+allAccesses (suc count) entries at = cond (isAccess (entries at)) (allAccesses count entries (suc at)) false
 
 -- a buffer with a text at one of its places
 unfoldable pub written : List ℕ → ℕ → List ℕ → List ℕ

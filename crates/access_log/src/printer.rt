@@ -1,17 +1,22 @@
 // The text of a log: one line for each access, and `BAD` with the record's number where rule 13 refuses.
 ghost use mathlib.Core.Path.{_≡_};
-ghost use Prim.Native.Nat.{_+_, _%_, _≤_};
+ghost use mathlib.Core.Bool.{true};
+ghost use Prim.Native.Nat.{_+_, _%_, _<_, _≤_};
 ghost use lib.ListN.{length, take};
 ghost use Rattle.io.specs.Counts.{Counts};
+ghost use Rattle.access_log.specs.declared.Entry.the-variants as entry;
+ghost use Rattle.access_log.specs.Log.{isAccess, entryAt, entryIn};
 ghost use Rattle.access_log.specs.Text.{hexDigit, decimalUpTo, lineWith, lineOf, badLine, textOf, allAccesses, written, over};
 use crate::Entry;
-use crate::entry_in;
+use crate::accesses;
+use crate::entry_at;
+use crate::words::RECORDS;
+use crate::words::WORDS;
+use crate::words::words_in;
 use zynq7000::qspi::Access;
 
 // Room for the text of 512 records: 14 bytes a line, or up to 25 for the line that ends it.
 const ROOM: usize = 7200;
-
-const RECORDS: usize = 512;
 
 const LINE: usize = 14;
 
@@ -31,39 +36,75 @@ impl Rendered {
     }
 }
 
-// Writes the text of at most 512 records to the front of `out`. `first` is the number of the first
-// record; a log of more than 2^64 records counts on from 0.
+// Writes the text of at most 512 records of a log of bytes to the front of `out`. `first` is the number
+// of the first record; a log of more than 2^64 records counts on from 0.
 pub fn render(bytes: &[u8], first: u64, out: &mut [u8; ROOM]) -> Rendered
-    ensures text { λ _. ⌜ now (out .exit) ≡ over (textOf 512 (now (bytes .entry)) first 0) (now (out .entry)) ⌝ }
-    ensures len { λ r. ⌜ r .len ≡ length (textOf 512 (now (bytes .entry)) first 0) ⌝ }
-    ensures more { λ r. ⌜ r .more ≡ allAccesses 512 (now (bytes .entry)) 0 ⌝ }
+    ensures text { λ _. ⌜ now (out .exit) ≡ over (textOf 512 (entryIn (now (bytes .entry))) first 0) (now (out .entry)) ⌝ }
+    ensures len { λ r. ⌜ r .len ≡ length (textOf 512 (entryIn (now (bytes .entry))) first 0) ⌝ }
+    ensures more { λ r. ⌜ r .more ≡ allAccesses 512 (entryIn (now (bytes .entry))) 0 ⌝ }
     ensures counts { λ r. ⌜ Counts (r .len) (now (out .exit)) ⌝ }
 {
-    put_lines(bytes, first, out)
+    let mut words = [0u32; WORDS];
+    let len = words_in(bytes, &mut words);
+    render_words(&words[..len], first, out)
 }
 
-// The same on a slice that has the room.
-fn put_lines(bytes: &[u8], first: u64, out: &mut [u8]) -> Rendered
-    requires { ⌜ 7200 ≤ length (now out) ⌝ }
-    ensures text { λ _. ⌜ now (out .exit) ≡ over (textOf 512 (now (bytes .entry)) first 0) (now (out .entry)) ⌝ }
-    ensures len { λ r. ⌜ r .len ≡ length (textOf 512 (now (bytes .entry)) first 0) ⌝ }
-    ensures more { λ r. ⌜ r .more ≡ allAccesses 512 (now (bytes .entry)) 0 ⌝ }
+// The same of a log of words.
+pub fn render_words(log: &[u32], first: u64, out: &mut [u8; ROOM]) -> Rendered
+    ensures text { λ _. ⌜ now (out .exit) ≡ over (textOf 512 (entryAt (now (log .entry))) first 0) (now (out .entry)) ⌝ }
+    ensures len { λ r. ⌜ r .len ≡ length (textOf 512 (entryAt (now (log .entry))) first 0) ⌝ }
+    ensures more { λ r. ⌜ r .more ≡ allAccesses 512 (entryAt (now (log .entry))) 0 ⌝ }
+    ensures counts { λ r. ⌜ Counts (r .len) (now (out .exit)) ⌝ }
 {
+    put_lines(log, first, out)
+}
+
+// `render_words` on a slice that has the room: the lines of the accesses that lead the log, and behind
+// them the line of a record that 13 refuses.
+fn put_lines(log: &[u32], first: u64, out: &mut [u8]) -> Rendered
+    requires { ⌜ 7200 ≤ length (now out) ⌝ }
+    ensures text { λ _. ⌜ now (out .exit) ≡ over (textOf 512 (entryAt (now (log .entry))) first 0) (now (out .entry)) ⌝ }
+    ensures len { λ r. ⌜ r .len ≡ length (textOf 512 (entryAt (now (log .entry))) first 0) ⌝ }
+    ensures more { λ r. ⌜ r .more ≡ allAccesses 512 (entryAt (now (log .entry))) 0 ⌝ }
+{
+    let count = at_most(accesses(log), RECORDS);
     let mut at: usize = 0;
-    while at < RECORDS {
-        match entry_in(bytes, at) {
-            Entry::Access(access) => {
-                put_line(out, at * LINE, access);
-                at += 1;
-            }
-            Entry::End => return Rendered::new(at * LINE, false),
-            Entry::BadLog(place) => {
-                let number = std::num::wrapping_add_u64(first, place as u64);
-                return Rendered::new(put_bad(out, at * LINE, number), false);
-            }
-        }
+    while at < count {
+        put_line(out, at * LINE, access_at(log, at));
+        at += 1;
     }
-    Rendered::new(RECORDS * LINE, true)
+    if count == RECORDS {
+        return Rendered::new(RECORDS * LINE, true);
+    }
+    match entry_at(log, count) {
+        Entry::BadLog(place) => {
+            let number = std::num::wrapping_add_u64(first, place as u64);
+            Rendered::new(put_bad(out, count * LINE, number), false)
+        }
+        Entry::End => Rendered::new(count * LINE, false),
+        // Never: this is the first place that holds no access.
+        Entry::Access(_) => Rendered::new(count * LINE, false),
+    }
+}
+
+// The smaller of two numbers.
+fn at_most(n: usize, most: usize) -> usize
+    ensures least { λ r. ⌜ (r ≤ n) × (r ≤ most) ⌝ }
+    ensures same { λ r. ⌜ (r < most → r ≡ n) ⌝ }
+{
+    if n < most { n } else { most }
+}
+
+// The access at a place that holds one: the other arms are never taken.
+fn access_at(log: &[u32], at: usize) -> Access
+    requires { ⌜ isAccess (entryAt (now log) at) ≡ true ⌝ }
+    ensures access { λ r. ⌜ entryAt (now (log .entry)) at ≡ entry.Access r ⌝ }
+{
+    match entry_at(log, at) {
+        Entry::Access(access) => access,
+        Entry::End => Access::Write(0, 0),
+        Entry::BadLog(_) => Access::Write(0, 0),
+    }
 }
 
 // Writes an access's line.

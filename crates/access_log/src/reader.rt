@@ -1,7 +1,7 @@
 // A reader keeps the lent log and its place together, and gives the log's accesses one by one.
 ghost use mathlib.Core.Path.{_≡_};
-ghost use Rattle.access_log.specs.Log.{answerOf, answerAt};
-ghost use Rattle.access_log.specs.Reader.{isAccess, foundAt, nextOf, readOf, accessesIn};
+ghost use Rattle.access_log.specs.Log.{answerOf, answerAt, isAccess};
+ghost use Rattle.access_log.specs.Reader.{foundAt, nextOf, readOf, accessesIn};
 use crate::Entry;
 use crate::entry_at;
 

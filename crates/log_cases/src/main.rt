@@ -1,5 +1,5 @@
 // The text of small logs, swept over each border of rule 13, of the record numbers and of a buffer,
-// and the entries of a log by place.
+// the entries of a log by place, and the number of accesses that lead one.
 use access_log::Entry;
 use libc::STDOUT_FILENO;
 
@@ -34,6 +34,9 @@ const LOG: [u8; 24] = [
 // First words far above 1FC.
 const LARGE: [u32; 4] = [0x0001_0000, 0x8000_0000, 0xFFFF_FFFC, 0xFFFF_FFFF];
 
+// Four accesses.
+const FOUR: [u32; 8] = [0x14, 1, 0x120, 0xDEAD_CAFE, 0x80, 6, 0x1FC, 0xFFFF_FFFF];
+
 // Numbers of the first record.
 const NUMBERS: [u64; 6] = [
     0,
@@ -46,14 +49,14 @@ const NUMBERS: [u64; 6] = [
 
 fn main() {
     let mut i: usize = 0;
-    while i < 612 {
+    while i < 686 {
         case(i);
         i += 1;
     }
 }
 
 // First words 0 to 20F, some larger ones, the log cut at every byte, the numbers, the lengths around a
-// buffer, and the places of words and bytes.
+// buffer, the places of words, and every front of four records with a refused one at each place.
 fn case(i: usize) {
     if i < 528 {
         return one(i);
@@ -72,7 +75,13 @@ fn case(i: usize) {
     if i < 580 {
         return measure(4088 + (i - 563));
     }
-    places(i - 580);
+    if i < 596 {
+        return places(i - 580);
+    }
+    if i < 641 {
+        return leading(i - 596, 0x102);
+    }
+    leading(i - 641, 0x200);
 }
 
 fn one(first: usize) {
@@ -135,21 +144,46 @@ fn measure(len: usize) {
     io::write_all(STDOUT_FILENO, b"\n");
 }
 
-// Four places of logs of none to three words, and of bytes as many times eight.
+// Four places of logs of none to three words.
 fn places(i: usize) {
     let words = [0x100, 7, 0x200];
-    let log = LOG;
     let at = place(i % 4);
     let len = i / 4 % 4;
     title(b"place ", at as u64);
     title(b"words ", len as u64);
     entry(access_log::entry_at(front_words(&words, len), at));
-    entry(access_log::entry_in(front(&log, len * 8), at));
 }
 
 // The last place of all stands for the fourth.
 fn place(i: usize) -> usize {
     if i == 3 { usize::MAX } else { i }
+}
+
+// Four records, of which the one at a place has a first word that is none; at place 4 all are accesses.
+fn refused(at: usize, first: u32) -> [u32; 8] {
+    let mut words = FOUR;
+    if at < 4 {
+        words[at * 2] = first;
+    }
+    words
+}
+
+// The accesses that lead none to eight words of such records: what stands behind the refused one does
+// not count.
+fn leading(i: usize, first: u32) {
+    let at = i / 9 % 5;
+    let len = i % 9;
+    if len == 0 {
+        title(b"refused at ", at as u64);
+    }
+    let words = refused(at, first);
+    let count = access_log::accesses(front_words(&words, len));
+    io::print_decimal(STDOUT_FILENO, count as u64);
+    if len == 8 {
+        io::write_all(STDOUT_FILENO, b"\n");
+    } else {
+        io::write_all(STDOUT_FILENO, b" ");
+    }
 }
 
 fn title(name: &[u8], n: u64) {

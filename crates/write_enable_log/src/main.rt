@@ -18,7 +18,7 @@ fn run(log: &mut [u32]) {
     let ended = qspi_operation::run(op, &nothing, &mut no_buffer, log, &replies);
     let op = ended.op;
     let used = op.used;
-    print(log, used);
+    print(front(log, used));
 }
 
 // The words that were used, or all.
@@ -30,39 +30,9 @@ fn front(log: &[u32], used: usize) -> &[u32] {
     }
 }
 
-fn print(log: &[u32], used: usize) {
-    lines(front(log, used));
-}
-
-// Two words an access.
-fn lines(log: &[u32]) {
-    let whole = log.len() / 2;
-    let mut at: usize = 0;
-    while at < whole {
-        line(log[at * 2], log[at * 2 + 1]);
-        at += 1;
-    }
-}
-
-// An access as the line of its little-endian record.
-fn line(first: u32, value: u32) {
-    let record = [
-        byte(first),
-        byte(first / 0x100),
-        byte(first / 0x1_0000),
-        byte(first / 0x100_0000),
-        byte(value),
-        byte(value / 0x100),
-        byte(value / 0x1_0000),
-        byte(value / 0x100_0000),
-    ];
+fn print(log: &[u32]) {
     let mut text = [0u8; 7200];
-    let rendered = access_log::render(&record, 0, &mut text);
+    let rendered = access_log::render_words(log, 0, &mut text);
     let len = rendered.len;
     io::write_all(STDOUT_FILENO, &text[..len]);
-}
-
-// The low byte of a word.
-fn byte(word: u32) -> u8 {
-    (word % 0x100) as u8
 }

@@ -1,4 +1,4 @@
--- `log_cases::main` is safe and ends: the case's number rises to 612. Assumes nothing.
+-- `log_cases::main` is safe and ends: the case's number rises to 686. Assumes nothing.
 use Prim.Native.Nat.{_-_}
 use native.Mathlib.Omega.{arith}
 use Rattle.log_cases.proofs.main.Statement.{statement}
@@ -8,7 +8,7 @@ abbrev Inv-loop : tie.InvT-loop
 Inv-loop i₀ i = Unit {0}
 
 abbrev μ-loop : tie.MeasureT-loop
-μ-loop i₀ i = 612 - i
+μ-loop i₀ i = 686 - i
 
 loop-holds : tie.Need-loop-holds Inv-loop μ-loop
 loop-holds c = tt

@@ -51,8 +51,8 @@ use denote.Triple.Table.{entered, cited}
 use denote.Triple.Walked.{says, Stays, stay-dropped, walkOf, goes-dropped, Walks, ends-at, walked, walk-meets}
 use denote.Exit.{yes as kept}
 use denote.Signature.{Slot, plain, shrSliceOf}
-use Rattle.access_log.specs.Log.{answerOf, answerAt, entryAt}
-use Rattle.access_log.specs.Reader.{isAccess, foundAt, readOf, accessesIn}
+use Rattle.access_log.specs.Log.{answerOf, answerAt, isAccess, entryAt}
+use Rattle.access_log.specs.Reader.{foundAt, readOf, accessesIn}
 use Rattle.access_log.specs.declared.Entry.{Entry}
 use Rattle.access_log.specs.declared.reader.LogReader.{LogReader}
 use Rattle.access_log.proofs.Clauses.{all-of-three}

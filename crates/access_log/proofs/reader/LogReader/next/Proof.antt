@@ -160,7 +160,7 @@ module _ {M : Type 1} (𝓤 : URA M) (H : Heap 𝓤) (A : Atoms 𝓤) (W : Given
       suffices ! _
       (via 𝓤 _
       (monoR 𝓤 (onExit 𝓤 H A next.ended stayed (κ, (κ′, tt)) (q, (q′, tt)) vals (entryV (r .entry)) (r .entry) a (h′ (r .next), tt))
-      (each-of-three 𝓤 (h′ (r .next) ≡ readOf h) (r .entry ≡ found .entry) (answerOf (r .entry) ≡ answerAt (h .log .now) (h .at))))
+      (each-of-three 𝓤 _ _ _))
       (ends-at 𝓤 H A next.ended stayed (next.clauses 𝓤 H A at-mem run) W (((κ, (κ′, tt)), (q, (q′, tt)), bounds, a, vals), tt)
       (entryV (r .entry)) (r .entry) (h′ (r .next), tt) (tt, tt))) $
       says ! (ap (λ (x : Found). h′ (x .next)) (e .0), (ap (λ (x : Found). x .entry) (e .0), e .1)) $
