@@ -50,8 +50,9 @@ reads-on (suc k) r all =
     ∙ (reads-on k (placed-at r (r .at + 1)) (λ i h. at-next log (one-on (r .at) i) (all (suc i) (omega arith)))
     ∙ ap (placed-at r) behind)
 
--- THEOREM. Of a log that accesses wrote, whatever follows them, the reader gives the k-th access in the k-th place.
+-- a reader at the start of a log that accesses wrote, whatever follows them
 module _ (d : Access) (rest : List ℕ) (l : List Access) (o : Loggable l) (r : LogReader) (is : now (r .log) ≡ encode l ++ rest) (from : r .at ≡ 0) where
+  -- after k accesses it stands at the place k
   pub reader-at : (k : ℕ) → k ≤ length l → readTimes k r ≡ placed-at r k
   reader-at k h =
       let place : r .at + k ≡ k = omega arith in
@@ -62,6 +63,7 @@ module _ (d : Access) (rest : List ℕ) (l : List Access) (o : Loggable l) (r : 
       ∙ (ap (λ (w : List ℕ). isAccess (entryAt w i)) is ∙ written-before l rest o i (omega arith)))
       ∙ ap (placed-at r) place
 
+  -- THEOREM. It gives the k-th access as the k-th, at the place k.
   pub reader-reads-back : (k : ℕ) → k < length l → (nextOf (readTimes k r) ≡ entry.Access (getD l k d)) × (readTimes k r .at ≡ k)
   reader-reads-back k h =
       let at : readTimes k r ≡ placed-at r k = reader-at k (omega arith) in (

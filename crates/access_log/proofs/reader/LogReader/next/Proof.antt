@@ -45,7 +45,7 @@ use denote.Triple.Table.{entered, cited}
 use denote.Triple.Walked.{says, Stays, stay-ref, onExit, walkOf, goes-ref, Walks, ends-at, walked, walk-meets}
 use denote.Signature.{Slot, plain, namedLft}
 use Rattle.access_log.specs.Log.{answerOf, answerAt}
-use Rattle.access_log.specs.Reader.{foundAt, readOf}
+use Rattle.access_log.specs.Reader.{foundAt}
 use Rattle.access_log.specs.declared.Entry.{Entry}
 use Rattle.access_log.specs.declared.reader.Found.{Found}
 use Rattle.access_log.specs.declared.reader.LogReader.{LogReader}
