@@ -15,3 +15,4 @@ pub mod ReadBytes
 pub mod ReadCalls
 pub mod PromptLogs
 pub mod WireOrder
+pub mod Registers
