@@ -1,10 +1,8 @@
 -- What the run of `write_pages` promises, out of the tie of its start to its script. Assumes nothing.
 use mathlib.Core.Path.{_≡_, _∙_, sym}
 use mathlib.Core.List.{List, [], _∷_}
-use Prim.Native.Nat.{ℕ, suc, _*_, _/_, _^_, _<_}
-use lib.ListN.{length, getD, drop}
-use lib.Seq.{take-at}
-use Rattle.zynq7000.specs.Access.{encode}
+use Prim.Native.Nat.{ℕ, suc, _/_, _^_, _<_}
+use lib.ListN.{length, getD}
 use Rattle.qspi_operation.specs.declared.Op.{Op}
 use Rattle.qspi_operation.specs.declared.Stepped.{Stepped}
 use Rattle.qspi_operation.specs.Run.{runOf}
@@ -12,16 +10,16 @@ use Rattle.qspi_operation.specs.Step.{programmedOf}
 use Rattle.qspi_calls.specs.Machine.{Result, countIn, called}
 use Rattle.qspi_calls.specs.Calls.{writePages}
 use Rattle.qspi_calls.specs.Starts.{writePagesOf}
-use Rattle.qspi_calls.proofs.Outcome.{length-encode}
 use Rattle.qspi_calls.proofs.Short.{no-values}
 use Rattle.qspi_calls.proofs.WireOrder.{AllBytes}
 use Rattle.qspi_calls.proofs.Pages.{write-pages}
+use Rattle.qspi_calls.proofs.Registers.{Call, run-loggable}
 use Rattle.qspi_runs.specs.declared.Ran.{Ran}
 use Rattle.qspi_runs.specs.Promise.{ranOf, loggedOf, handed, Ended}
 use Rattle.qspi_runs.proofs.Promised.{kept-by}
 use Rattle.power_cut.specs.Promise.{Saved}
 use Rattle.power_cut.proofs.Theorem.{power-cut}
-use Rattle.power_cut.proofs.Offsets.{run-loggable}
+use Rattle.power_cut.proofs.Offsets.{used-words}
 
 -- what is lent as bytes is bytes
 all-bytes : (bs : List ℕ) → ((i : ℕ) → getD bs i 0 < 256) → AllBytes bs
@@ -42,8 +40,8 @@ module _ (a : ℕ) (bytes rs log : List ℕ) where
   saved : AllBytes bytes → Saved a bytes (record { ran = ranOf result; programmed = countIn (result .state) }) (loggedOf result log)
   saved h = record {
     accesses = result .log;
-    is-log = take-at (encode (result .log)) (drop (2 * length (result .log)) log) (2 * length (result .log)) (length-encode (result .log));
-    to-registers = run-loggable a bytes (length log / 2) rs;
+    is-log = used-words result log;
+    to-registers = run-loggable (Call.write-pages a bytes) (length log / 2) rs;
     claim = power-cut a bytes h (length log / 2) rs;
   }
 
