@@ -4,3 +4,4 @@ pub mod Sending
 pub mod Commands
 pub mod Shows
 pub mod OfRuns
+pub mod ReadsRun
