@@ -1,0 +1,39 @@
+-- `station_cases::print::written` is safe and ends: the place rises to the length. Assumes nothing.
+use Prim.Native.Nat.{_-_}
+use native.Mathlib.Omega.{arith}
+use lib.ListN.{length}
+use Rattle.station_cases.proofs.print.written.Statement.{statement}
+use Rattle.station_cases.proofs.print.written.Tie as tie
+
+abbrev Inv-loop : tie.InvT-loop
+Inv-loop name register log count₀ at₀ count at = Unit {0}
+
+abbrev μ-loop : tie.MeasureT-loop
+μ-loop name register log count₀ at₀ count at = length log - at
+
+loop-holds : tie.Need-loop-holds Inv-loop μ-loop
+loop-holds c = tt
+
+entry-at-requires : tie.Need-entry-at-requires Inv-loop μ-loop
+entry-at-requires c κs = tt
+
+met-requires : tie.Need-met-requires Inv-loop μ-loop
+met-requires c κs = tt
+
+add-at : tie.Need-add-at Inv-loop μ-loop
+add-at c = omega arith
+
+loop-less : tie.Need-loop-less Inv-loop μ-loop
+loop-less c = omega arith
+
+loop-again : tie.Need-loop-again Inv-loop μ-loop
+loop-again c = tt
+
+over-requires : tie.Need-over-requires Inv-loop μ-loop
+over-requires c κs = tt
+
+returns : tie.Need-returns Inv-loop μ-loop
+returns c = tt
+
+pub written-spec : {M : Type 1} → statement M
+written-spec = tie.close (tie.spec Inv-loop μ-loop loop-holds entry-at-requires met-requires add-at loop-less loop-again over-requires returns)
