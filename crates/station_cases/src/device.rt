@@ -37,8 +37,8 @@ struct After {
 
 // Makes the replies that a call uses, and returns how many there are.
 pub fn replies(op: Op, data: &[u8], replies: &mut [u32]) -> usize {
-    let mut buffer = [0u8; 16];
-    let mut log = [0u32; 512];
+    let mut buffer = [0u8; memory::BUFFER];
+    let mut log = [0u32; memory::LOG];
     let len = memory::lent(op, buffer.len());
     serve(op, data, &mut buffer[0..len], &mut log, replies)
 }

@@ -1,6 +1,7 @@
 // Runs the station cases of document 01 and prints the answer of each, the used counts, how far the call
 // changed log and buffer, and the words that it sent, read from its log.
 // The stored output is made by `tools/station_cases`, which has the same cases from the paper.
+use crate::memory::LOG;
 use qspi_calls::start;
 use qspi_operation::Op;
 use qspi_operation::Stepped;
@@ -10,8 +11,6 @@ mod clock;
 mod device;
 mod memory;
 mod print;
-
-const LOG: usize = 512;
 
 fn main() {
     erase(0x00FE_0000);
@@ -86,7 +85,7 @@ fn case_with_data(op: Op, length: usize) {
 fn case(op: Op, data: &[u8]) {
     let mut replies = [0u32; 256];
     let count = device::replies(op, data, &mut replies);
-    let mut buffer = [memory::UNTOUCHED_BYTE; 16];
+    let mut buffer = [memory::UNTOUCHED_BYTE; memory::BUFFER];
     let mut log = [memory::UNTOUCHED; LOG];
     show(
         op,
@@ -100,22 +99,16 @@ fn case(op: Op, data: &[u8]) {
 fn show(op: Op, data: &[u8], buffer: &mut [u8], log: &mut [u32], replies: &[u32]) {
     let len = memory::lent(op, buffer.len());
     let stepped = run_call(op, data, &mut buffer[0..len], log, replies);
-    let ended = stepped.op;
-    result(stepped);
-    print::changed(b"; log ", b"word ", memory::changed(log));
-    print::changed(b", buffer ", b"byte ", memory::bytes_changed(buffer));
-    print::text(b"\n");
-    let used = memory::front(log, ended.used);
-    print::written(b"  sends", qspi::TX_DATA_00, used);
-    print::written(b"  A0 gets", qspi::LINEAR_QSPI_CONFIG, used);
+    let used = result(stepped);
+    left(buffer, log, used);
 }
 
 fn run_call(op: Op, data: &[u8], buffer: &mut [u8], log: &mut [u32], replies: &[u32]) -> Stepped {
     qspi_operation::run(op, data, buffer, log, replies)
 }
 
-// The answer, the bytes that `write_pages` counts, and the used counts.
-fn result(stepped: Stepped) {
+// The answer, the bytes that `write_pages` counts, and the used counts; returns the log words.
+fn result(stepped: Stepped) -> usize {
     let op = stepped.op;
     let job = op.job;
     let script = job.script;
@@ -126,4 +119,15 @@ fn result(stepped: Stepped) {
     }
     print::decimal(b"; used log words ", op.used);
     print::decimal(b", replies ", op.replies);
+    op.used
+}
+
+// What the memory holds afterwards.
+fn left(buffer: &[u8], log: &[u32], used: usize) {
+    print::changed(b"; log ", b"word ", memory::changed(log));
+    print::changed(b", buffer ", b"byte ", memory::bytes_changed(buffer));
+    print::text(b"\n");
+    let made = memory::front(log, used);
+    print::written(b"  sends", qspi::TX_DATA_00, made);
+    print::written(b"  A0 gets", qspi::LINEAR_QSPI_CONFIG, made);
 }

@@ -2,6 +2,11 @@
 ghost use Prim.Native.Nat.{_≤_};
 use qspi_operation::Op;
 
+// Words of log and bytes of buffer, enough for every case.
+pub const LOG: usize = 512;
+
+pub const BUFFER: usize = 16;
+
 // No access and no reply has these.
 pub const UNTOUCHED: u32 = 0xA5A5_5A5A;
 
