@@ -9,3 +9,4 @@ pub mod ThinDue
 pub mod ThinAnswer
 pub mod Driving
 pub mod DriveWalk
+pub mod Saving

@@ -1,10 +1,12 @@
 // The outer layer: one small driver state, lent by `&mut` to each start and step and updated. A method
 // takes it apart and calls the covered function of `state`; `drive` runs a whole call through the methods.
 ghost use mathlib.Core.Path.{_≡_};
+ghost use mathlib.Core.Bool.{true, false};
 ghost use lib.ListN.{length};
-ghost use Rattle.qspi_operation.specs.Step.{dueOf, logOf, bufferOf};
+ghost use Rattle.qspi_operation.specs.Step.{isGoing, dueOf, logOf, bufferOf};
 ghost use Rattle.qspi_driver.specs.State.{begunOf, steppedOf, progressOf};
 ghost use Rattle.qspi_driver.specs.Driver.{idle, driverOf, drivenOf};
+ghost use Rattle.qspi_driver.specs.Saved.{Saves, Untouched};
 use crate::state::Answer;
 use crate::state::Progress;
 use crate::state::State;
@@ -104,4 +106,20 @@ pub fn drive(
         driver: lent,
         answer,
     }
+}
+
+// A save through the methods. Its contract states what a power cut can leave in the flash.
+pub fn write_pages(
+    driver: QspiSpansionS25Fl256SIoMode,
+    addr: u32,
+    data: &[u8],
+    log: &mut [u32],
+    replies: &[u32],
+) -> Driven
+    ensures saves { λ r. ⌜ (isGoing (driver .state .op .status) ≡ false → Saves addr (now («data» .entry)) (now (replies .entry)) (now (log .entry)) r (now (log .exit))) ⌝ }
+    ensures busy { λ r. ⌜ (isGoing (driver .state .op .status) ≡ true → Untouched driver (now (log .entry)) r (now (log .exit))) ⌝ }
+{
+    let op = start::write_pages(addr, data.len(), log.len());
+    let mut buffer = [0u8; 0];
+    drive(driver, op, data, &mut buffer, log, replies)
 }
