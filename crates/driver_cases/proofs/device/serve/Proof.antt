@@ -1,11 +1,11 @@
--- `station_cases::device::serve` is safe and ends: the turns rise to 256. Assumes nothing.
+-- `driver_cases::device::serve` is safe and ends: the turns rise to 256. Assumes nothing.
 use Prim.Native.Nat.{_-_}
 use native.Mathlib.Omega.{arith}
 use lib.ListN.{length}
 use borrow.Author.Needs.{needs}
 use mathlib.Core.Path.{_≡_}
-use Rattle.station_cases.proofs.device.serve.Statement.{statement}
-use Rattle.station_cases.proofs.device.serve.Tie as tie
+use Rattle.driver_cases.proofs.device.serve.Statement.{statement}
+use Rattle.driver_cases.proofs.device.serve.Tie as tie
 
 abbrev Inv-loop : tie.InvT-loop
 Inv-loop «data» buffer₀ log₀ replies₀ o₀ d₀ turns₀ buffer log replies o d turns = (length buffer ≡ length buffer₀) × ((length log ≡ length log₀) × (length replies ≡ length replies₀))

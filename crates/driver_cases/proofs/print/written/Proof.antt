@@ -1,9 +1,9 @@
--- `station_cases::print::written` is safe and ends: the place rises to the length. Assumes nothing.
+-- `driver_cases::print::written` is safe and ends: the place rises to the length. Assumes nothing.
 use Prim.Native.Nat.{_-_}
 use native.Mathlib.Omega.{arith}
 use lib.ListN.{length}
-use Rattle.station_cases.proofs.print.written.Statement.{statement}
-use Rattle.station_cases.proofs.print.written.Tie as tie
+use Rattle.driver_cases.proofs.print.written.Statement.{statement}
+use Rattle.driver_cases.proofs.print.written.Tie as tie
 
 abbrev Inv-loop : tie.InvT-loop
 Inv-loop name register log count₀ at₀ count at = Unit {0}

@@ -1,10 +1,13 @@
-// Runs the station cases of document 01 and prints the answer of each, the used counts, how far the call
-// changed log and buffer, and the words that it sent, read from its log.
-// The stored output is made by `tools/station_cases`, which has the same cases from the paper.
+// Runs the station cases of document 01 through the driver's methods and prints the answer of each, the used
+// counts, how far the call changed log and buffer, and the words that it sent, read from its log.
+// The stored output is made by `tools/driver_cases`, which has the same cases from the paper.
 use crate::memory::LOG;
 use qspi_calls::start;
+use qspi_driver::Driven;
+use qspi_driver::QspiSpansionS25Fl256SIoMode;
+use qspi_driver::state::Answer;
+use qspi_driver::state::State;
 use qspi_operation::Op;
-use qspi_operation::Stepped;
 use zynq7000::qspi;
 
 mod clock;
@@ -35,6 +38,7 @@ fn main() {
     clock::loopback(7936507);
     io_mode(false);
     io_mode(true);
+    erase_while_busy(0x0003_0000);
 }
 
 fn erase(addr: u32) {
@@ -81,13 +85,29 @@ fn case_with_data(op: Op, length: usize) {
     case(op, &data[0..len]);
 }
 
-// A call on the replies of a prompt device.
+// The driver has a call at hand that has not ended: the next one is not begun.
+fn erase_while_busy(addr: u32) {
+    print::text(b"erase ");
+    print::hex(addr, 6);
+    print::text(b" while a write enable is under way");
+    let op = start::write_enable(LOG);
+    let state = State { op };
+    let driver = QspiSpansionS25Fl256SIoMode { state };
+    case_with_driver(driver, start::erase_sector(addr, LOG), &[]);
+}
+
 fn case(op: Op, data: &[u8]) {
+    case_with_driver(QspiSpansionS25Fl256SIoMode::idle(), op, data);
+}
+
+// A call on the replies of a prompt device.
+fn case_with_driver(driver: QspiSpansionS25Fl256SIoMode, op: Op, data: &[u8]) {
     let mut replies = [0u32; 256];
     let count = device::replies(op, data, &mut replies);
     let mut buffer = [memory::UNTOUCHED_BYTE; memory::BUFFER];
     let mut log = [memory::UNTOUCHED; LOG];
     show(
+        driver,
         op,
         data,
         &mut buffer,
@@ -96,24 +116,32 @@ fn case(op: Op, data: &[u8]) {
     );
 }
 
-fn show(op: Op, data: &[u8], buffer: &mut [u8], log: &mut [u32], replies: &[u32]) {
+fn show(
+    driver: QspiSpansionS25Fl256SIoMode,
+    op: Op,
+    data: &[u8],
+    buffer: &mut [u8],
+    log: &mut [u32],
+    replies: &[u32],
+) {
     let len = memory::lent(op, buffer.len());
-    let stepped = run_call(op, data, &mut buffer[0..len], log, replies);
-    let used = result(stepped);
+    let driven = qspi_driver::drive(driver, op, data, &mut buffer[0..len], log, replies);
+    let used = result(driven);
     left(buffer, log, used);
 }
 
-fn run_call(op: Op, data: &[u8], buffer: &mut [u8], log: &mut [u32], replies: &[u32]) -> Stepped {
-    qspi_operation::run(op, data, buffer, log, replies)
-}
-
 // The answer, the bytes that `write_pages` counts, and the used counts; returns the log words.
-fn result(stepped: Stepped) -> usize {
-    let op = stepped.op;
+fn result(driven: Driven) -> usize {
+    let driver = driven.driver;
+    let state = driver.state;
+    let op = state.op;
     let job = op.job;
     let script = job.script;
-    let answer = stepped.answer;
-    print::answer(answer);
+    let answer = driven.answer;
+    match answer {
+        Answer::Given(status) => print::answer(status),
+        Answer::Busy => print::text(b": Busy"),
+    }
     if script.paging {
         print::decimal(b", programmed ", qspi_operation::programmed(op));
     }
