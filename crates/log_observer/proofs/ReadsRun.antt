@@ -10,7 +10,12 @@ use Rattle.zynq7000.specs.declared.qspi.Access.{Access}
 use Rattle.access_log.specs.declared.Entry.the-variants as entry
 use Rattle.access_log.specs.Log.{entryAt}
 use Rattle.access_log.proofs.Places.{at-end}
+use Rattle.access_log.specs.Reader.{nextOf, readTimes, accessesIn}
+use Rattle.access_log.specs.declared.reader.LogReader.{LogReader}
 use Rattle.access_log.proofs.RoundTrip.{reads-back}
+use Rattle.access_log.proofs.Leading.{accesses-written}
+use Rattle.access_log.proofs.Reading.{reader-reads-back}
+use denote.Ref.{now}
 use Rattle.qspi_calls.specs.Machine.{Script, Result, called}
 use Rattle.qspi_calls.proofs.Outcome.{length-encode}
 use Rattle.qspi_calls.proofs.Registers.{OnRegisters, runs-on-registers}
@@ -32,3 +37,13 @@ module _ {s : Script} (p : OnRegisters s) (room : ℕ) (replies log : List ℕ) 
   -- THEOREM. From the place behind the last access on, the used words alone are at their end.
   pub run-reads-end : (k : ℕ) → length (result .log) ≤ k → entryAt (take (ranOf result .used) (loggedOf result log)) k ≡ entry.End
   run-reads-end k h = rw (used-words result log) (at-end (encode (result .log)) k (omega (arith, length-encode (result .log))))
+
+  -- a reader at the start of the lent log
+  module _ (d : Access) (r : LogReader) (is : now (r .log) ≡ loggedOf result log) (from : r .at ≡ 0) where
+    -- THEOREM. It gives the run's accesses in order, the k-th from the place k.
+    pub run-read : (k : ℕ) → k < length (result .log) → (nextOf (readTimes k r) ≡ entry.Access (getD (result .log) k d)) × (readTimes k r .at ≡ k)
+    run-read = reader-reads-back d (drop (2 * length (result .log)) log) (result .log) (runs-on-registers p room replies) r is from
+
+  -- THEOREM. The used words have as many accesses as the run made.
+  pub run-accesses : accessesIn (take (ranOf result .used) (loggedOf result log)) ≡ length (result .log)
+  run-accesses = rw (used-words result log) (accesses-written (result .log) (runs-on-registers p room replies))

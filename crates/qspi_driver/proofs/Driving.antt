@@ -10,12 +10,11 @@ use Rattle.qspi_operation.specs.declared.Op.{Op}
 use Rattle.qspi_operation.specs.declared.Reply.{Reply}
 use Rattle.qspi_operation.specs.declared.Stepped.{Stepped as Operation}
 use Rattle.qspi_operation.specs.Step.{isGoing, stepOf, logOf, bufferOf, replyOf}
-use Rattle.qspi_operation.specs.Run.{Run, runAt, runOf, fuel, left}
+use Rattle.qspi_operation.specs.Run.{runAt, runOf, fuel, left}
 use Rattle.qspi_operation.proofs.Verdicts.{no}
 use Rattle.qspi_operation.proofs.Runs.{halted, Turn, turn}
-use Rattle.qspi_driver.specs.State.{holds, begunIf, begunOf, steppedOf, isUnderWay}
+use Rattle.qspi_driver.specs.State.{begunIf, begunOf, steppedOf, isUnderWay}
 use Rattle.qspi_driver.specs.Driver.{Driver, driverOf, Drive, reached, drivenIf, drivenOf}
-use Rattle.qspi_driver.specs.declared.state.State.{State}
 use Rattle.qspi_driver.specs.declared.state.Answer.{Answer}
 use Rattle.qspi_driver.specs.declared.state.Answer.the-variants.{Given, Busy}
 

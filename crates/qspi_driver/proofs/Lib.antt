@@ -10,3 +10,4 @@ pub mod ThinAnswer
 pub mod Driving
 pub mod DriveWalk
 pub mod Saving
+pub mod DriverLaws

@@ -5,10 +5,6 @@ use Rattle.qspi_driver.proofs.Saving as saving
 use borrow.Author.Needs.{needs}
 use Rattle.qspi_driver.proofs.write_pages.Statement.{statement}
 use Rattle.qspi_driver.proofs.write_pages.Tie as tie
-use Rattle.qspi_driver.proofs.write_pages.Reads as reads
-use Rattle.qspi_driver.proofs.write_pages.Lts as lts
-use Rattle.qspi_calls.proofs.start.write_pages.Reads as write-pages-reads
-use Rattle.qspi_driver.proofs.drive.Reads as drive-reads
 
 -- src/lib.rt:122:9
 write-pages-requires : tie.Need-write-pages-requires

@@ -6,9 +6,6 @@ use Rattle.qspi_driver.specs.Driver.{driverOf}
 use borrow.Author.Needs.{needs}
 use Rattle.qspi_driver.proofs.QspiSpansionS25Fl256SIoMode.idle.Statement.{statement}
 use Rattle.qspi_driver.proofs.QspiSpansionS25Fl256SIoMode.idle.Tie as tie
-use Rattle.qspi_driver.proofs.QspiSpansionS25Fl256SIoMode.idle.Reads as reads
-use Rattle.qspi_driver.proofs.QspiSpansionS25Fl256SIoMode.idle.Lts as lts
-use Rattle.qspi_calls.proofs.start.read_page_read.Reads as read-page-read-reads
 
 -- src/lib.rt:29:13
 read-page-read-requires : tie.Need-read-page-read-requires

@@ -1,12 +1,7 @@
 -- Each field is copied or is what its callee says. Assumes nothing.
-use mathlib.Core.Path.{_≡_, refl, sym, ap, _∙_}
 use borrow.Author.Needs.{needs}
 use Rattle.qspi_driver.proofs.state.answer_so_far.Statement.{statement}
 use Rattle.qspi_driver.proofs.state.answer_so_far.Tie as tie
-use Rattle.qspi_driver.proofs.state.answer_so_far.Reads as reads
-use Rattle.qspi_driver.proofs.state.answer_so_far.Lts as lts
-use Rattle.qspi_operation.proofs.programmed.Reads as programmed-reads
-use Rattle.qspi_runs.proofs.kept.Reads as kept-reads
 
 -- src/state.rt:111:21
 programmed-requires : tie.Need-programmed-requires

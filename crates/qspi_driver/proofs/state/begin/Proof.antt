@@ -1,13 +1,10 @@
 -- The status of the operation at hand decides. Assumes nothing.
-use mathlib.Core.Path.{_≡_, refl, sym, ap, _∙_}
+use mathlib.Core.Path.{sym, ap, _∙_}
 use mathlib.Core.Bool.{Bool}
 use Rattle.qspi_driver.specs.State.{begunIf}
 use borrow.Author.Needs.{needs}
 use Rattle.qspi_driver.proofs.state.begin.Statement.{statement}
 use Rattle.qspi_driver.proofs.state.begin.Tie as tie
-use Rattle.qspi_driver.proofs.state.begin.Reads as reads
-use Rattle.qspi_driver.proofs.state.begin.Lts as lts
-use Rattle.qspi_operation.proofs.is_going.Reads as is-going-reads
 
 -- src/state.rt:79:8
 is-going-requires : tie.Need-is-going-requires

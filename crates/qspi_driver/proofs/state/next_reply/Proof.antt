@@ -9,8 +9,6 @@ use Rattle.qspi_operation.specs.Step.{pickReply}
 use borrow.Author.Needs.{needs}
 use Rattle.qspi_driver.proofs.state.next_reply.Statement.{statement}
 use Rattle.qspi_driver.proofs.state.next_reply.Tie as tie
-use Rattle.qspi_driver.proofs.state.next_reply.Reads as reads
-use Rattle.qspi_driver.proofs.state.next_reply.Lts as lts
 
 -- src/state.rt:144:21
 mul-t8 : tie.Need-mul-t8

@@ -4,10 +4,6 @@ use Rattle.qspi_driver.specs.State.{actedBy}
 use borrow.Author.Needs.{needs}
 use Rattle.qspi_driver.proofs.state.step.Statement.{statement}
 use Rattle.qspi_driver.proofs.state.step.Tie as tie
-use Rattle.qspi_driver.proofs.state.step.Reads as reads
-use Rattle.qspi_driver.proofs.state.step.Lts as lts
-use Rattle.qspi_driver.proofs.state.holding.Reads as holding-reads
-use Rattle.qspi_operation.proofs.step.Reads as step-reads
 
 -- src/state.rt:134:13
 step-requires : tie.Need-step-requires
