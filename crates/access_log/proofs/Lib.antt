@@ -9,8 +9,6 @@ pub mod Bytes
 pub mod Packing
 pub mod Parts
 pub mod Answers
-pub mod Clauses
-pub mod Lend
 pub mod Finding
 pub mod Leading
 pub mod Reading

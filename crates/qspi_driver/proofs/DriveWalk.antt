@@ -32,9 +32,9 @@ use denote.Ref.{RefT, MutRef}
 use denote.Slice.{sliceVal, ShrSlice, MutSlice, Room, finally, shr-slice-copy}
 use denote.Steps.{only, owned, peeks, heard, nothing}
 use denote.Triple.Call.{calls-from, calls-from-last}
-use Rattle.qspi_driver.proofs.Known.{Known, Holder, Outcome, sliceTy}
-use Rattle.qspi_driver.proofs.Local.{lends-local, local-back}
-use Rattle.qspi_driver.proofs.Again.{LentAgain, lends-again-at, comes-back-at}
+use Rattle.hand_walks.proofs.Known.{Known, Holder, Outcome, sliceTy}
+use Rattle.hand_walks.proofs.Lend.{lends-local, local-back}
+use Rattle.hand_walks.proofs.Again.{LentAgain, lends-again-at, comes-back-at}
 
 holds : (y : Bool) → Holds y → y ≡ true
 holds true z = refl

@@ -1,8 +1,4 @@
-pub mod Known
 pub mod Types
-pub mod Stating
-pub mod Local
-pub mod Again
 pub mod ThinStart
 pub mod ThinStep
 pub mod ThinDue

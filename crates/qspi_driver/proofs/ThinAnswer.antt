@@ -21,7 +21,7 @@ use denote.Ref.{ShrRef}
 use denote.Steps.{looks, shuts, owned, peeks, heard}
 use denote.Struct.Steps.{spelt}
 use denote.Triple.Call.{calls-from}
-use Rattle.qspi_driver.proofs.Known.{Known, Holder}
+use Rattle.hand_walks.proofs.Known.{Known, Holder}
 
 module _ {M : Type 1} {𝓤 : URA M} {H : Heap 𝓤} {A : Atoms 𝓤} (S N : Known 𝓤 H A) (D : Holder 𝓤 H A S) where
   abbrev τD : Ty

@@ -25,7 +25,7 @@ use denote.Slice.{sliceVal, ShrSlice, Room}
 use denote.Steps.{looks, shuts, owned, peeks, heard}
 use denote.Struct.Steps.{spelt}
 use denote.Triple.Call.{calls-from}
-use Rattle.qspi_driver.proofs.Known.{Known, Holder, sliceTy}
+use Rattle.hand_walks.proofs.Known.{Known, Holder, sliceTy}
 
 module _ {M : Type 1} {𝓤 : URA M} {H : Heap 𝓤} {A : Atoms 𝓤} (S N : Known 𝓤 H A) (D : Holder 𝓤 H A S) where
   abbrev τD : Ty

@@ -26,7 +26,7 @@ use denote.Ref.{MutRef}
 use denote.Steps.{only, opens, closes, owned, peeks, heard}
 use denote.Struct.Steps.{spelt}
 use denote.Triple.Call.{calls-from}
-use Rattle.qspi_driver.proofs.Known.{Known, Holder, Pair}
+use Rattle.hand_walks.proofs.Known.{Known, Holder, Pair}
 
 module _ {M : Type 1} {𝓤 : URA M} {H : Heap 𝓤} {A : Atoms 𝓤} (S N : Known 𝓤 H A) (P : Known 𝓤 H A) (D : Holder 𝓤 H A S) (X : Pair 𝓤 H A S N) where
   abbrev τD : Ty

@@ -27,7 +27,7 @@ use denote.Slice.{sliceVal, ShrSlice, MutSlice, Room, finally}
 use denote.Steps.{only, opens, closes, owned, peeks, heard}
 use denote.Struct.Steps.{spelt}
 use denote.Triple.Call.{calls-from}
-use Rattle.qspi_driver.proofs.Known.{Known, Holder, Pair, sliceTy}
+use Rattle.hand_walks.proofs.Known.{Known, Holder, Pair, sliceTy}
 
 module _ {M : Type 1} {𝓤 : URA M} {H : Heap 𝓤} {A : Atoms 𝓤} (S N : Known 𝓤 H A) (P : Known 𝓤 H A) (D : Holder 𝓤 H A S) (X : Pair 𝓤 H A S N) where
   abbrev τD : Ty

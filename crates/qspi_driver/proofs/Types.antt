@@ -6,7 +6,7 @@ use ghost.Atoms.{Atoms}
 use types.Kit.{Given}
 use denote.Struct.Laws as LL
 use denote.Enum.Laws as EL
-use Rattle.qspi_driver.proofs.Known.{Known, Holder, Pair, Outcome}
+use Rattle.hand_walks.proofs.Known.{Known, Holder, Pair, Outcome}
 use Rattle.qspi_driver.proofs.QspiSpansionS25Fl256SIoMode as Driverᵀ
 use Rattle.qspi_driver.proofs.QspiSpansionS25Fl256SIoMode.Laws as Driverᴸ
 use Rattle.qspi_driver.proofs.state.State as Stateᵀ

@@ -55,9 +55,9 @@ use Rattle.access_log.specs.Log.{answerOf, answerAt, isAccess, entryAt}
 use Rattle.access_log.specs.Reader.{foundAt, readOf, accessesIn}
 use Rattle.access_log.specs.declared.Entry.{Entry}
 use Rattle.access_log.specs.declared.reader.LogReader.{LogReader}
-use Rattle.access_log.proofs.Clauses.{all-of-three}
+use Rattle.hand_walks.proofs.Clauses.{all-of-three}
 use Rattle.access_log.proofs.Counting.{State, tested, starts, within, below, moves, nearer, ends}
-use Rattle.access_log.proofs.Lend.{lends-local, local-back}
+use Rattle.hand_walks.proofs.Lend.{lends-local, local-back}
 use Rattle.access_log.proofs.Finding.{next-on}
 use Rattle.access_log.proofs.reader.LogReader as T
 use Rattle.access_log.proofs.reader.LogReader.Laws as T′

@@ -49,7 +49,7 @@ use Rattle.access_log.specs.Reader.{foundAt}
 use Rattle.access_log.specs.declared.Entry.{Entry}
 use Rattle.access_log.specs.declared.reader.Found.{Found}
 use Rattle.access_log.specs.declared.reader.LogReader.{LogReader}
-use Rattle.access_log.proofs.Clauses.{all-of-two, each-of-three}
+use Rattle.hand_walks.proofs.Clauses.{all-of-two, each-of-three}
 use Rattle.access_log.proofs.reader.LogReader as T
 use Rattle.access_log.proofs.reader.LogReader.Laws as T′
 use Rattle.access_log.proofs.reader.Found as F

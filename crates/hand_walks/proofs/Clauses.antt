@@ -23,3 +23,6 @@ module _ {M : Type 1} (𝓤 : URA M) where
 
   pub each-of-three : (φ ψ χ : Type 0) → ent 𝓤 (fact 𝓤 (φ × (ψ × χ))) (sep 𝓤 (fact 𝓤 φ) (sep 𝓤 (fact 𝓤 ψ) (fact 𝓤 χ)))
   each-of-three φ ψ χ = via 𝓤 (sep 𝓤 (fact 𝓤 φ) (fact 𝓤 (ψ × χ))) (each-of-two φ (ψ × χ)) (monoR 𝓤 (fact 𝓤 φ) (each-of-two ψ χ))
+
+  pub each-of-four : (φ ψ χ ω : Type 0) → ent 𝓤 (fact 𝓤 (φ × (ψ × (χ × ω)))) (sep 𝓤 (fact 𝓤 φ) (sep 𝓤 (fact 𝓤 ψ) (sep 𝓤 (fact 𝓤 χ) (fact 𝓤 ω))))
+  each-of-four φ ψ χ ω = via 𝓤 (sep 𝓤 (fact 𝓤 φ) (fact 𝓤 (ψ × (χ × ω)))) (each-of-two φ (ψ × (χ × ω))) (monoR 𝓤 (fact 𝓤 φ) (each-of-three ψ χ ω))

@@ -1,0 +1,4 @@
+pub mod Lend
+pub mod Again
+pub mod Clauses
+pub mod Known
