@@ -2,9 +2,8 @@
 -- `&mut self` as one small driver state lent to each step and updated". Each method is the step, the start or the query by value.
 use Prim.Native.Nat.{ℕ}
 use mathlib.Core.Bool.{Bool, true, false}
-use mathlib.Core.List.{List, [], _∷_}
+use mathlib.Core.List.{List}
 use Rattle.qspi_script.specs.Stages.{numberOf}
-use Rattle.qspi_script.specs.declared.Status.{Status}
 use Rattle.qspi_operation.specs.declared.Op.{Op}
 use Rattle.qspi_operation.specs.declared.Reply.{Reply}
 use Rattle.qspi_operation.specs.declared.Stepped.{Stepped}
@@ -13,13 +12,15 @@ use Rattle.qspi_runs.specs.Promise.{keptOf}
 use Rattle.qspi_driver.specs.declared.state.State.{State}
 use Rattle.qspi_driver.specs.declared.state.Answer.{Answer}
 use Rattle.qspi_driver.specs.declared.state.Answer.the-variants.{Given, Busy}
+use Rattle.qspi_driver.specs.declared.state.Number.{Number}
+use Rattle.qspi_driver.specs.declared.state.Number.the-variants.{Of, Without}
 use Rattle.qspi_driver.specs.declared.state.Acted.{Acted}
 use Rattle.qspi_driver.specs.declared.state.Progress.{Progress}
 
 -- 01's number of an answer; it has none for a start while an operation has not ended
-abbrev pub answerNumber : Answer → List ℕ
-answerNumber (Given a) = numberOf a ∷ []
-answerNumber Busy = []
+abbrev pub numberIn : Answer → Number
+numberIn (Given a) = Of (numberOf a)
+numberIn Busy = Without
 
 -- an operation at hand
 abbrev pub holds : Op → State

@@ -5,7 +5,7 @@ ghost use lib.ListN.{length};
 ghost use Rattle.zedboard_bsp.specs.Words.{topByte};
 ghost use Rattle.zedboard_bsp.specs.DeviceId.{baseBytes, extendedBytes, replyBytes, longReplyBytes};
 ghost use Rattle.qspi_operation.specs.Step.{dueOf, logOf, bufferOf, replyOf};
-ghost use Rattle.qspi_driver.specs.State.{begunOf, actedBy, steppedOf, progressOf, isUnderWay};
+ghost use Rattle.qspi_driver.specs.State.{numberIn, begunOf, actedBy, steppedOf, progressOf, isUnderWay};
 use qspi_operation::Asked;
 use qspi_operation::Op;
 use qspi_operation::Reply;
@@ -26,6 +26,23 @@ pub enum Answer {
     Given(Status),
     // A start while the operation at hand has not ended: nothing is changed.
     Busy,
+}
+
+// Document 01's number of an answer, where it has one.
+pub enum Number {
+    Of(u32),
+    Without,
+}
+
+impl Answer {
+    pub fn number(self) -> Number
+        ensures number { λ r. ⌜ r ≡ numberIn self ⌝ }
+    {
+        match self {
+            Answer::Given(status) => Number::Of(status.number()),
+            Answer::Busy => Number::Without,
+        }
+    }
 }
 
 // The state after a start or a step, and its answer.
