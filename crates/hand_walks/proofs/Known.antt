@@ -11,8 +11,15 @@ use base.Fml.{Share, fat}
 use prog.Wp.{Heap}
 use ghost.Atoms.{Atoms, sem}
 use denote.RattleType.{RattleType}
-use denote.Memory.{cellAt}
+use denote.Memory.{cellAt, lone}
 use denote.Laws.{Is, Tells, Makes, Copy}
+use denote.Struct.Declared as Struct
+use denote.Struct.Laws as StructLaws
+use denote.Struct.Struct.{Plains}
+use denote.Enum.Declared as Enum
+use denote.Enum.Laws as EnumLaws
+use denote.Enum.Enum.{Plainss, Few}
+use types.Kit.{Given}
 
 -- a slice as MIR has it: `&[]` is 38 91 93
 abbrev pub sliceTy : Lifetime → Mutability → Width → Ty
@@ -26,6 +33,27 @@ module _ {M : Type 1} (𝓤 : URA M) (H : Heap 𝓤) (A : Atoms 𝓤) where
     pub tells : Tells row (Is row) (λ x. val x ∷ [])
     pub typed : (x : row .Denot) (v : Val) → Is row x (v ∷ []) → Holds (hasTy ty v) × WT v
     pub makes : Makes 𝓤 H A row (Is row)
+
+  -- a declared struct, and a declared enum
+  abbrev pub of-struct : Given 𝓤 H A → (T : Struct.Declared) → StructLaws.Laws T → Plains (Struct.fields T) → Known
+  of-struct W T L pl = record {
+    row = Struct.row T;
+    ty = lone (Struct.row T .mir);
+    val = StructLaws.val T L;
+    tells = StructLaws.tells T L;
+    typed = λ x v is. StructLaws.lawful T L 𝓤 H A W .typed x (v ∷ []) is .0;
+    makes = StructLaws.makes T pl 𝓤 H A;
+  }
+
+  abbrev pub of-enum : Given 𝓤 H A → (T : Enum.Declared) → EnumLaws.Laws T → Few (Enum.shape T) → Plainss (Enum.variants T) → Known
+  of-enum W T L few pl = record {
+    row = Enum.row T;
+    ty = lone (Enum.row T .mir);
+    val = EnumLaws.val T L;
+    tells = EnumLaws.tells T L;
+    typed = λ x v is. EnumLaws.lawful T L 𝓤 H A W few .typed x (v ∷ []) is .0;
+    makes = EnumLaws.makes T pl 𝓤 H A;
+  }
 
   -- a struct of one field, as it lies in memory
   pub record Holder (S : Known) : Type 2 where

@@ -2,3 +2,4 @@ pub mod Lend
 pub mod Again
 pub mod Clauses
 pub mod Known
+pub mod Branch

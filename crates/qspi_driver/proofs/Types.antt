@@ -5,8 +5,7 @@ use prog.Wp.{Heap}
 use ghost.Atoms.{Atoms}
 use types.Kit.{Given}
 use denote.Struct.Laws as LL
-use denote.Enum.Laws as EL
-use Rattle.hand_walks.proofs.Known.{Known, Holder, Pair, Outcome}
+use Rattle.hand_walks.proofs.Known.{Known, of-struct, of-enum, Holder, Pair, Outcome}
 use Rattle.qspi_driver.proofs.QspiSpansionS25Fl256SIoMode as Driverᵀ
 use Rattle.qspi_driver.proofs.QspiSpansionS25Fl256SIoMode.Laws as Driverᴸ
 use Rattle.qspi_driver.proofs.state.State as Stateᵀ
@@ -28,64 +27,22 @@ use Rattle.qspi_operation.proofs.Reply.Laws as Replyᴸ
 
 module _ {M : Type 1} (𝓤 : URA M) (H : Heap 𝓤) (A : Atoms 𝓤) (W : Given 𝓤 H A) where
   abbrev pub state : Known 𝓤 H A
-  state = record {
-    row = Stateᵀ.the-row;
-    ty = Stateᴸ.mir;
-    val = LL.val Stateᵀ.the-type Stateᴸ.the-laws;
-    tells = LL.tells Stateᵀ.the-type Stateᴸ.the-laws;
-    typed = λ x v is. LL.lawful Stateᵀ.the-type Stateᴸ.the-laws 𝓤 H A W .typed x (v ∷ []) is .0;
-    makes = LL.makes Stateᵀ.the-type Stateᴸ.the-plain 𝓤 H A;
-  }
+  state = of-struct 𝓤 H A W Stateᵀ.the-type Stateᴸ.the-laws Stateᴸ.the-plain
 
   abbrev pub op : Known 𝓤 H A
-  op = record {
-    row = Opᵀ.the-row;
-    ty = Opᴸ.mir;
-    val = LL.val Opᵀ.the-type Opᴸ.the-laws;
-    tells = LL.tells Opᵀ.the-type Opᴸ.the-laws;
-    typed = λ x v is. LL.lawful Opᵀ.the-type Opᴸ.the-laws 𝓤 H A W .typed x (v ∷ []) is .0;
-    makes = LL.makes Opᵀ.the-type Opᴸ.the-plain 𝓤 H A;
-  }
+  op = of-struct 𝓤 H A W Opᵀ.the-type Opᴸ.the-laws Opᴸ.the-plain
 
   abbrev pub answer : Known 𝓤 H A
-  answer = record {
-    row = Answerᵀ.the-row;
-    ty = Answerᴸ.mir;
-    val = EL.val Answerᵀ.the-type Answerᴸ.the-laws;
-    tells = EL.tells Answerᵀ.the-type Answerᴸ.the-laws;
-    typed = λ x v is. EL.lawful Answerᵀ.the-type Answerᴸ.the-laws 𝓤 H A W tt .typed x (v ∷ []) is .0;
-    makes = EL.makes Answerᵀ.the-type Answerᴸ.the-plain 𝓤 H A;
-  }
+  answer = of-enum 𝓤 H A W Answerᵀ.the-type Answerᴸ.the-laws tt Answerᴸ.the-plain
 
   abbrev pub reply : Known 𝓤 H A
-  reply = record {
-    row = Replyᵀ.the-row;
-    ty = Replyᴸ.mir;
-    val = EL.val Replyᵀ.the-type Replyᴸ.the-laws;
-    tells = EL.tells Replyᵀ.the-type Replyᴸ.the-laws;
-    typed = λ x v is. EL.lawful Replyᵀ.the-type Replyᴸ.the-laws 𝓤 H A W tt .typed x (v ∷ []) is .0;
-    makes = EL.makes Replyᵀ.the-type Replyᴸ.the-plain 𝓤 H A;
-  }
+  reply = of-enum 𝓤 H A W Replyᵀ.the-type Replyᴸ.the-laws tt Replyᴸ.the-plain
 
   abbrev pub asked : Known 𝓤 H A
-  asked = record {
-    row = Askedᵀ.the-row;
-    ty = Askedᴸ.mir;
-    val = EL.val Askedᵀ.the-type Askedᴸ.the-laws;
-    tells = EL.tells Askedᵀ.the-type Askedᴸ.the-laws;
-    typed = λ x v is. EL.lawful Askedᵀ.the-type Askedᴸ.the-laws 𝓤 H A W tt .typed x (v ∷ []) is .0;
-    makes = EL.makes Askedᵀ.the-type Askedᴸ.the-plain 𝓤 H A;
-  }
+  asked = of-enum 𝓤 H A W Askedᵀ.the-type Askedᴸ.the-laws tt Askedᴸ.the-plain
 
   abbrev pub progress : Known 𝓤 H A
-  progress = record {
-    row = Progressᵀ.the-row;
-    ty = Progressᴸ.mir;
-    val = LL.val Progressᵀ.the-type Progressᴸ.the-laws;
-    tells = LL.tells Progressᵀ.the-type Progressᴸ.the-laws;
-    typed = λ x v is. LL.lawful Progressᵀ.the-type Progressᴸ.the-laws 𝓤 H A W .typed x (v ∷ []) is .0;
-    makes = LL.makes Progressᵀ.the-type Progressᴸ.the-plain 𝓤 H A;
-  }
+  progress = of-struct 𝓤 H A W Progressᵀ.the-type Progressᴸ.the-laws Progressᴸ.the-plain
 
   abbrev pub driver : Holder 𝓤 H A state
   driver = record {

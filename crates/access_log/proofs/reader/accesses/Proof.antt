@@ -57,6 +57,7 @@ use Rattle.access_log.specs.declared.Entry.{Entry}
 use Rattle.access_log.specs.declared.reader.LogReader.{LogReader}
 use Rattle.hand_walks.proofs.Clauses.{all-of-three}
 use Rattle.access_log.proofs.Counting.{State, tested, starts, within, below, moves, nearer, ends}
+use Rattle.hand_walks.proofs.Branch.{holds, fails}
 use Rattle.hand_walks.proofs.Lend.{lends-local, local-back}
 use Rattle.access_log.proofs.Finding.{next-on}
 use Rattle.access_log.proofs.reader.LogReader as T
@@ -95,14 +96,6 @@ ty k = ty-at k mir.locals
 -- the loop's last statement, which the generated MIR has under no name
 abbrev more-body : MirBody
 more-body = assign (place 3 []) (op2 (add unsigned) (copy (place 3 [])) (int w64 1))
-
-holds : (y : Bool) → Holds y → y ≡ true
-holds true z = refl
-holds false z = absurd z
-
-fails : (y : Bool) → Holds (not y) → y ≡ false
-fails true z = absurd z
-fails false z = refl
 
 -- the contracts that the proof cites
 module _ {M : Type 1} (𝓤 : URA M) (H : Heap 𝓤) (A : Atoms 𝓤) (mem : Memory → SProp 𝓤) (run : Routine → Fun 𝓤) where
