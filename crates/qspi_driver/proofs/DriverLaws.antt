@@ -7,6 +7,8 @@ use Rattle.qspi_operation.specs.declared.Op.{Op}
 use Rattle.qspi_operation.specs.Step.{isGoing}
 use Rattle.qspi_operation.specs.Run.{runOf}
 use Rattle.qspi_operation.proofs.Runs.{run-ends}
+use Rattle.qspi_script.specs.declared.Stage.the-variants.{Enable}
+use Rattle.qspi_calls.specs.Starts.{oneTransfer}
 use Rattle.qspi_driver.specs.State.{begunIf, begunOf, holds, isUnderWay}
 use Rattle.qspi_driver.specs.Driver.{Driver, idle, reached, drivenIf, drivenOf}
 use Rattle.qspi_driver.specs.declared.state.State.{State}
@@ -15,6 +17,10 @@ use Rattle.qspi_driver.specs.declared.state.Answer.the-variants.{Given, 
 -- a driver with nothing at hand takes any call
 pub idle-rests : isGoing (idle .state .op .status) ≡ false
 idle-rests = refl
+
+-- a driver with a write enable at hand does not
+pub busy-is : isGoing (holds (oneTransfer Enable 24) .op .status) ≡ true
+busy-is = refl
 
 -- THEOREM. A call that is begun while another has not ended changes nothing and answers `Busy`.
 pub busy-keeps : (s : State) (o : Op) → isGoing (s .op .status) ≡ true → begunOf s o ≡ record { state = s; answer = Busy }

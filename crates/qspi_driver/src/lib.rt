@@ -113,8 +113,8 @@ pub fn write_pages(
     driver: QspiSpansionS25Fl256SIoMode,
     addr: u32,
     data: &[u8],
-    log: &mut [u32],
     replies: &[u32],
+    log: &mut [u32],
 ) -> Driven
     ensures saves { λ r. ⌜ (isGoing (driver .state .op .status) ≡ false → Saves addr (now («data» .entry)) (now (replies .entry)) (now (log .entry)) r (now (log .exit))) ⌝ }
     ensures busy { λ r. ⌜ (isGoing (driver .state .op .status) ≡ true → Untouched driver (now (log .entry)) r (now (log .exit))) ⌝ }
