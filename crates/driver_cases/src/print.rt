@@ -90,9 +90,10 @@ pub fn changed(name: &[u8], unit: &[u8], end: usize) {
 
 // The words that a log says a register got, on a line of their own.
 pub fn written(name: &[u8], register: u8, log: &[u32]) {
+    let made = access_log::accesses(log);
     let mut count: usize = 0;
     let mut at: usize = 0;
-    while at < log.len() {
+    while at < made {
         count = met(name, register, count, access_log::entry_at(log, at));
         at += 1;
     }

@@ -1,15 +1,17 @@
--- `driver_cases::print::written` is safe and ends: the place rises to the length. Assumes nothing.
+-- `driver_cases::print::written` is safe and ends: the place rises to the number of accesses. Assumes nothing.
 use Prim.Native.Nat.{_-_}
 use native.Mathlib.Omega.{arith}
-use lib.ListN.{length}
 use Rattle.driver_cases.proofs.print.written.Statement.{statement}
 use Rattle.driver_cases.proofs.print.written.Tie as tie
 
 abbrev Inv-loop : tie.InvT-loop
-Inv-loop name register log count₀ at₀ count at = Unit {0}
+Inv-loop name register log made count₀ at₀ count at = Unit {0}
 
 abbrev μ-loop : tie.MeasureT-loop
-μ-loop name register log count₀ at₀ count at = length log - at
+μ-loop name register log made count₀ at₀ count at = made - at
+
+accesses-requires : tie.Need-accesses-requires Inv-loop μ-loop
+accesses-requires c κs = tt
 
 loop-holds : tie.Need-loop-holds Inv-loop μ-loop
 loop-holds c = tt
@@ -36,4 +38,4 @@ returns : tie.Need-returns Inv-loop μ-loop
 returns c = tt
 
 pub written-spec : {M : Type 1} → statement M
-written-spec = tie.close (tie.spec Inv-loop μ-loop loop-holds entry-at-requires met-requires add-at loop-less loop-again over-requires returns)
+written-spec = tie.close (tie.spec Inv-loop μ-loop accesses-requires loop-holds entry-at-requires met-requires add-at loop-less loop-again over-requires returns)
