@@ -28,10 +28,10 @@ use denote.Laws.{Is, shows}
 use denote.Plain.{bool-lawful}
 use denote.Builtin.{u8, u32, bool}
 use denote.Ref.{RefT, MutRef}
-use denote.Slice.{sliceVal, ShrSlice, MutSlice, Room, finally, shr-slice-copy}
+use denote.Slice.{ShrSlice, MutSlice, Room, finally, shr-slice-copy}
 use denote.Steps.{only, owned, peeks, heard, nothing}
 use denote.Triple.Call.{calls-from, calls-from-last}
-use Rattle.hand_walks.proofs.Known.{Known, Holder, Outcome, sliceTy}
+use Rattle.hand_walks.proofs.Known.{Known, Holder, Outcome, sliceTy, slice}
 use Rattle.hand_walks.proofs.Branch.{holds, fails}
 use Rattle.hand_walks.proofs.Lend.{lends-local, local-back}
 use Rattle.hand_walks.proofs.Again.{LentAgain, lends-again-at, comes-back-at}
@@ -51,31 +51,31 @@ module _ {M : Type 1} {𝓤 : URA M} {H : Heap 𝓤} {A : Atoms 𝓤} (S N P R :
   valD y = vstruct (vcons (S .val y) vnil)
 
   -- the code, over the types and the names of `start`, `is_under_way`, `next_reply` and `step`
-  module _ (f₁ f₂ f₃ f₄ : Name) where
+  module _ (#start #test #reply #step : Name) where
     abbrev after-test : MirBody
-    after-test = seq (assign (place 12 []) (rvOpd (copy (place 7 (field 0 ∷ []))))) (seq (call f₃ (copy (place 12 []) ∷ copy (place 6 []) ∷ []) (place 9 [])) (seq (assign (place 13 []) (addrOf (place 7 []))) (seq (assign (place 14 []) (addrOf (place 4 (field 0 ∷ deref (tyInt w8) ∷ [])))) (seq (assign (place 15 []) (aggregate (copy (place 14 []) ∷ copy (place 4 (field 1 ∷ [])) ∷ []))) (seq (assign (place 16 []) (addrOf (place 5 (field 0 ∷ deref (tyInt w32) ∷ [])))) (seq (assign (place 17 []) (aggregate (copy (place 16 []) ∷ copy (place 5 (field 1 ∷ [])) ∷ []))) (call f₄ (copy (place 13 []) ∷ copy (place 3 []) ∷ copy (place 15 []) ∷ copy (place 17 []) ∷ copy (place 9 []) ∷ []) (place 8 []))))))))
+    after-test = seq (assign (place 12 []) (rvOpd (copy (place 7 (field 0 ∷ []))))) (seq (call #reply (copy (place 12 []) ∷ copy (place 6 []) ∷ []) (place 9 [])) (seq (assign (place 13 []) (addrOf (place 7 []))) (seq (assign (place 14 []) (addrOf (place 4 (field 0 ∷ deref (tyInt w8) ∷ [])))) (seq (assign (place 15 []) (aggregate (copy (place 14 []) ∷ copy (place 4 (field 1 ∷ [])) ∷ []))) (seq (assign (place 16 []) (addrOf (place 5 (field 0 ∷ deref (tyInt w32) ∷ [])))) (seq (assign (place 17 []) (aggregate (copy (place 16 []) ∷ copy (place 5 (field 1 ∷ [])) ∷ []))) (call #step (copy (place 13 []) ∷ copy (place 3 []) ∷ copy (place 15 []) ∷ copy (place 17 []) ∷ copy (place 9 []) ∷ []) (place 8 []))))))))
 
     abbrev turn : MirBody
-    turn = seq (call f₂ (copy (place 8 []) ∷ []) (place 11 [])) (seq (cond (copy (place 11 [])) skip (exit 1)) after-test)
+    turn = seq (call #test (copy (place 8 []) ∷ []) (place 11 [])) (seq (cond (copy (place 11 [])) skip (exit 1)) after-test)
 
     abbrev after-loop : MirBody
-    after-loop = seq (assign (place 18 []) (rvOpd (copy (place 7 [])))) (seq (assign (place 0 []) (aggregate (copy (place 18 []) ∷ copy (place 8 []) ∷ []))) (return))
+    after-loop = seq (assign (place 18 []) (rvOpd (copy (place 7 [])))) (seq (assign (place 0 []) (aggregate (copy (place 18 []) ∷ copy (place 8 []) ∷ []))) return)
 
     abbrev pub code : Fn
     code = record {
       lifetimes = 4;
       outlives = [];
       params = 6;
-      locals = local (τR) valueLocal ∷ local (τD) valueLocal ∷ local (P .ty) valueLocal ∷ local (sliceTy (named 0) imm w8) valueLocal ∷ local (sliceTy (named 1) mut w8) valueLocal ∷ local (sliceTy (named 2) mut w32) valueLocal ∷ local (sliceTy (named 3) imm w32) valueLocal ∷ local τD memorySlot ∷ local (N .ty) valueLocal ∷ local (R .ty) valueLocal ∷ local (tyRef erased mut (tyNamed (D .name, []))) valueLocal ∷ local (tyBool) valueLocal ∷ local (S .ty) valueLocal ∷ local (tyRef erased mut (tyNamed (D .name, []))) valueLocal ∷ local (tyRef erased mut (tyInt w8)) valueLocal ∷ local (sliceTy (erased) mut w8) valueLocal ∷ local (tyRef erased mut (tyInt w32)) valueLocal ∷ local (sliceTy (erased) mut w32) valueLocal ∷ local (τD) valueLocal ∷ [];
-      body = seq (assign (place 7 []) (rvOpd (copy (place 1 [])))) (seq (assign (place 10 []) (addrOf (place 7 []))) (seq (call f₁ (copy (place 10 []) ∷ copy (place 2 []) ∷ []) (place 8 [])) (seq (block (loop turn)) after-loop)));
+      locals = local τR valueLocal ∷ local τD valueLocal ∷ local (P .ty) valueLocal ∷ local (sliceTy (named 0) imm w8) valueLocal ∷ local (sliceTy (named 1) mut w8) valueLocal ∷ local (sliceTy (named 2) mut w32) valueLocal ∷ local (sliceTy (named 3) imm w32) valueLocal ∷ local τD memorySlot ∷ local (N .ty) valueLocal ∷ local (R .ty) valueLocal ∷ local (tyRef erased mut (tyNamed (D .name, []))) valueLocal ∷ local tyBool valueLocal ∷ local (S .ty) valueLocal ∷ local (tyRef erased mut (tyNamed (D .name, []))) valueLocal ∷ local (tyRef erased mut (tyInt w8)) valueLocal ∷ local (sliceTy erased mut w8) valueLocal ∷ local (tyRef erased mut (tyInt w32)) valueLocal ∷ local (sliceTy erased mut w32) valueLocal ∷ local τD valueLocal ∷ [];
+      body = seq (assign (place 7 []) (rvOpd (copy (place 1 [])))) (seq (assign (place 10 []) (addrOf (place 7 []))) (seq (call #start (copy (place 10 []) ∷ copy (place 2 []) ∷ []) (place 8 [])) (seq (block (loop turn)) after-loop)));
     }
 
     module _ (W : Given 𝓤 H A) (κ₀ κ₁ κ₂ κ₃ : Lft) (q₀ q₁ q₂ q₃ : Share) (driver : D .row .Denot) (op : P .row .Denot) (bytes buffer log replies : RefT (List ℕ)) where
       abbrev Bytes : Fml
-      Bytes = ShrSlice (named 0) κ₀ u8 .own bytes (sliceVal (bytes .ptr) (length (bytes .now)) ∷ [])
+      Bytes = ShrSlice (named 0) κ₀ u8 .own bytes (slice bytes ∷ [])
 
       abbrev Replies : Fml
-      Replies = ShrSlice (named 3) κ₃ u32 .own replies (sliceVal (replies .ptr) (length (replies .now)) ∷ [])
+      Replies = ShrSlice (named 3) κ₃ u32 .own replies (slice replies ∷ [])
 
       -- what a call of each method is handed
       abbrev pub to-start : ℕ → ℕ → GName → SProp 𝓤
@@ -85,10 +85,14 @@ module _ {M : Type 1} {𝓤 : URA M} {H : Heap 𝓤} {A : Atoms 𝓤} (S N P R :
       to-test a = sep 𝓤 (sem 𝓤 H A ftrue) (sem 𝓤 H A (owns (N .row ∷ []) (a, tt) (N .val a ∷ [], tt)))
 
       abbrev pub to-reply : D .row .Denot → SProp 𝓤
-      to-reply d = sep 𝓤 (sep 𝓤 (A .lft κ₃ q₃) (sem 𝓤 H A ftrue)) (sem 𝓤 H A (owns (S .row ∷ ShrSlice (named 0) κ₃ u32 ∷ []) (D .get d, (replies, tt)) (S .val (D .get d) ∷ [], (sliceVal (replies .ptr) (length (replies .now)) ∷ [], tt))))
+      to-reply d = sep 𝓤 (sep 𝓤 (A .lft κ₃ q₃) (sem 𝓤 H A ftrue)) (sem 𝓤 H A (owns (S .row ∷ ShrSlice (named 0) κ₃ u32 ∷ []) (D .get d, (replies, tt)) (S .val (D .get d) ∷ [], (slice replies ∷ [], tt))))
 
       abbrev pub to-step : ℕ → ℕ → ℕ → ℕ → GName → GName → GName → D .row .Denot → List ℕ → List ℕ → R .row .Denot → SProp 𝓤
-      to-step ν ρ₁ ρ₂ b δ ε₁ ε₂ d stored logged r = sep 𝓤 (sep 𝓤 (A .lft (ν ∷ []) fullShare) (sep 𝓤 (A .lft κ₀ q₀) (sep 𝓤 (A .lft (ρ₁ ∷ []) fullShare) (sep 𝓤 (A .lft (ρ₂ ∷ []) fullShare) (sem 𝓤 H A ftrue))))) (sem 𝓤 H A (owns (MutRef (named 0) (ν ∷ []) (D .row) ∷ ShrSlice (named 1) κ₀ u8 ∷ MutSlice (named 2) (ρ₁ ∷ []) u8 ∷ MutSlice (named 3) (ρ₂ ∷ []) u32 ∷ R .row ∷ []) (record { ptr = (b, 0); name = δ; now = d }, (bytes, (lent-at buffer ε₁ stored, (lent-at log ε₂ logged, (r, tt))))) (vptr b 0 ∷ [], (sliceVal (bytes .ptr) (length (bytes .now)) ∷ [], (sliceVal (buffer .ptr) (length (buffer .now)) ∷ [], (sliceVal (log .ptr) (length (log .now)) ∷ [], (R .val r ∷ [], tt)))))))
+      to-step ν ρ₁ ρ₂ b δ ε₁ ε₂ d stored logged r = sep 𝓤 (sep 𝓤 (A .lft (ν ∷ []) fullShare) (sep 𝓤 (A .lft κ₀ q₀) (sep 𝓤 (A .lft (ρ₁ ∷ []) fullShare) (sep 𝓤 (A .lft (ρ₂ ∷ []) fullShare) (sem 𝓤 H A ftrue))))) (sem 𝓤 H A (owns (MutRef (named 0) (ν ∷ []) (D .row) ∷ ShrSlice (named 1) κ₀ u8 ∷ MutSlice (named 2) (ρ₁ ∷ []) u8 ∷ MutSlice (named 3) (ρ₂ ∷ []) u32 ∷ R .row ∷ []) (record { ptr = (b, 0); name = δ; now = d }, (bytes, (lent-at buffer ε₁ stored, (lent-at log ε₂ logged, (r, tt))))) (vptr b 0 ∷ [], (slice bytes ∷ [], (slice buffer ∷ [], (slice log ∷ [], (R .val r ∷ [], tt)))))))
+
+      -- the token of a call's own lifetimes comes back with what the call answers
+      abbrev pub Lent-back : ℕ → ℕ → ℕ → SProp 𝓤
+      Lent-back ν ρ₁ ρ₂ = sep 𝓤 (A .lft (ν ∷ []) fullShare) (sep 𝓤 (A .lft κ₀ q₀) (sep 𝓤 (A .lft (ρ₁ ∷ []) fullShare) (A .lft (ρ₂ ∷ []) fullShare)))
 
       module _ (under : N .row .Denot → Bool) (Started : D .row .Denot → N .row .Denot → Type 0) (Replied : D .row .Denot → R .row .Denot → Type 0)
           (Stepped : D .row .Denot → List ℕ → List ℕ → R .row .Denot → D .row .Denot → N .row .Denot → List ℕ → List ℕ → Type 0) (Good : D .row .Denot → N .row .Denot → List ℕ → List ℕ → Type 0) where
@@ -99,13 +103,31 @@ module _ {M : Type 1} {𝓤 : URA M} {H : Heap 𝓤} {A : Atoms 𝓤} (S N P R :
           pub logged : List ℕ
           pub good : Good held answer stored logged
 
-        module _ (Post : Val → SProp 𝓤) (Q₁ : ℕ → ℕ → GName → Val → SProp 𝓤) (Q₂ : N .row .Denot → Val → SProp 𝓤) (Q₃ : D .row .Denot → Val → SProp 𝓤)
-            (Q₄ : ℕ → ℕ → ℕ → ℕ → GName → GName → GName → D .row .Denot → List ℕ → List ℕ → R .row .Denot → Val → SProp 𝓤)
-            (back₁ : (ν b : ℕ) (δ : GName) (w : Val) → ent 𝓤 (Q₁ ν b δ w) (H .⇛ (ex 𝓤 (λ (r : N .row .Denot). ex 𝓤 (λ (d : D .row .Denot). sep 𝓤 (sep 𝓤 (A .lft (ν ∷ []) fullShare) (sep 𝓤 (A .res δ (D .row .coded .code d)) (sem 𝓤 H A (N .row .own r (w ∷ []))))) (fact 𝓤 (Started d r)))))))
-            (back₂ : (a : N .row .Denot) (u : Val) → ent 𝓤 (Q₂ a u) (H .⇛ (ex 𝓤 (λ (y : Bool). sep 𝓤 (sem 𝓤 H A (bool .own y (u ∷ []))) (fact 𝓤 (y ≡ under a))))))
-            (back₃ : (d : D .row .Denot) (w : Val) → ent 𝓤 (Q₃ d w) (H .⇛ (ex 𝓤 (λ (r : R .row .Denot). sep 𝓤 (sep 𝓤 (A .lft κ₃ q₃) (sem 𝓤 H A (R .row .own r (w ∷ [])))) (fact 𝓤 (Replied d r))))))
-            (back₄ : (ν ρ₁ ρ₂ b : ℕ) (δ ε₁ ε₂ : GName) (d : D .row .Denot) (stored logged : List ℕ) (r : R .row .Denot) (w : Val)
-            → ent 𝓤 (Q₄ ν ρ₁ ρ₂ b δ ε₁ ε₂ d stored logged r w) (H .⇛ (ex 𝓤 (λ (a : N .row .Denot). ex 𝓤 (λ (z : D .row .Denot × (List ℕ × List ℕ)). sep 𝓤 (sep 𝓤 (sep 𝓤 (A .lft (ν ∷ []) fullShare) (sep 𝓤 (A .lft κ₀ q₀) (sep 𝓤 (A .lft (ρ₁ ∷ []) fullShare) (A .lft (ρ₂ ∷ []) fullShare)))) (sep 𝓤 (A .res δ (D .row .coded .code (z .0))) (sep 𝓤 (sem 𝓤 H A (finally u8 ε₁ (z .1 .0))) (sep 𝓤 (sem 𝓤 H A (finally u32 ε₂ (z .1 .1))) (sem 𝓤 H A (N .row .own a (w ∷ []))))))) (fact 𝓤 (Stepped d stored logged r (z .0) a (z .1 .0) (z .1 .1))))))))
+        -- what a call of each method gives back: its tokens, the lent memory at its last contents, its answer, and what it says of them
+        abbrev pub Gives-start : ℕ → GName → Val → SProp 𝓤
+        Gives-start ν δ w =
+            ex 𝓤 (λ (r : N .row .Denot). ex 𝓤 (λ (d : D .row .Denot).
+            sep 𝓤 (sep 𝓤 (A .lft (ν ∷ []) fullShare) (sep 𝓤 (A .res δ (D .row .coded .code d)) (sem 𝓤 H A (N .row .own r (w ∷ []))))) (fact 𝓤 (Started d r))))
+
+        abbrev pub Gives-test : N .row .Denot → Val → SProp 𝓤
+        Gives-test a w = ex 𝓤 (λ (y : Bool). sep 𝓤 (sem 𝓤 H A (bool .own y (w ∷ []))) (fact 𝓤 (y ≡ under a)))
+
+        abbrev pub Gives-reply : D .row .Denot → Val → SProp 𝓤
+        Gives-reply d w = ex 𝓤 (λ (r : R .row .Denot). sep 𝓤 (sep 𝓤 (A .lft κ₃ q₃) (sem 𝓤 H A (R .row .own r (w ∷ [])))) (fact 𝓤 (Replied d r)))
+
+        abbrev pub Gives-step : ℕ → ℕ → ℕ → GName → GName → GName → D .row .Denot → List ℕ → List ℕ → R .row .Denot → Val → SProp 𝓤
+        Gives-step ν ρ₁ ρ₂ δ ε₁ ε₂ d stored logged r w =
+            ex 𝓤 (λ (a : N .row .Denot). ex 𝓤 (λ (z : D .row .Denot × (List ℕ × List ℕ)).
+            sep 𝓤 (sep 𝓤 (Lent-back ν ρ₁ ρ₂) (sep 𝓤 (A .res δ (D .row .coded .code (z .0))) (sep 𝓤 (sem 𝓤 H A (finally u8 ε₁ (z .1 .0))) (sep 𝓤 (sem 𝓤 H A (finally u32 ε₂ (z .1 .1))) (sem 𝓤 H A (N .row .own a (w ∷ [])))))))
+            (fact 𝓤 (Stepped d stored logged r (z .0) a (z .1 .0) (z .1 .1)))))
+
+        -- of each callee: what its postcondition is, that it gives the above, and that it meets it
+        module _ (Post : Val → SProp 𝓤) (Q-start : ℕ → ℕ → GName → Val → SProp 𝓤) (Q-test : N .row .Denot → Val → SProp 𝓤) (Q-reply : D .row .Denot → Val → SProp 𝓤)
+            (Q-step : ℕ → ℕ → ℕ → ℕ → GName → GName → GName → D .row .Denot → List ℕ → List ℕ → R .row .Denot → Val → SProp 𝓤)
+            (start-gives : (ν b : ℕ) (δ : GName) (w : Val) → ent 𝓤 (Q-start ν b δ w) (H .⇛ (Gives-start ν δ w))) (test-gives : (a : N .row .Denot) (w : Val) → ent 𝓤 (Q-test a w) (H .⇛ (Gives-test a w)))
+            (reply-gives : (d : D .row .Denot) (w : Val) → ent 𝓤 (Q-reply d w) (H .⇛ (Gives-reply d w)))
+            (step-gives : (ν ρ₁ ρ₂ b : ℕ) (δ ε₁ ε₂ : GName) (d : D .row .Denot) (stored logged : List ℕ) (r : R .row .Denot) (w : Val)
+            → ent 𝓤 (Q-step ν ρ₁ ρ₂ b δ ε₁ ε₂ d stored logged r w) (H .⇛ (Gives-step ν ρ₁ ρ₂ δ ε₁ ε₂ d stored logged r w)))
             (wide : (t : State) → length (t .stored) ≡ length (buffer .now))
             (long : (t : State) → length (t .logged) ≡ length (log .now))
             (kept-buffer : (t : State) (r : R .row .Denot) (d : D .row .Denot) (a : N .row .Denot) (stored logged : List ℕ) → Stepped (t .held) (t .stored) (t .logged) r d a stored logged → length stored ≡ length (t .stored))
@@ -115,10 +137,10 @@ module _ {M : Type 1} {𝓤 : URA M} {H : Heap 𝓤} {A : Atoms 𝓤} (S N P R :
             (left : D .row .Denot → N .row .Denot → List ℕ → ℕ)
             (nearer : (t : State) (r : R .row .Denot) (d : D .row .Denot) (a : N .row .Denot) (stored logged : List ℕ) → under (t .answer) ≡ true → Replied (t .held) r → Stepped (t .held) (t .stored) (t .logged) r d a stored logged → left d a logged < left (t .held) (t .answer) (t .logged))
             (exits : (d : D .row .Denot) (a : N .row .Denot) (stored logged : List ℕ) → Is (D .row) d (valD (D .get d) ∷ []) → Is (N .row) a (N .val a ∷ []) → Good d a stored logged → under a ≡ false
-            → ent 𝓤 (⋆ 𝓤 H A (‵ (MutSlice (named 1) κ₁ u8 .own (lent-at buffer (buffer .name) stored) (sliceVal (buffer .ptr) (length (buffer .now)) ∷ [])) ∷ ‵ (MutSlice (named 1) κ₂ u32 .own (lent-at log (log .name) logged) (sliceVal (log .ptr) (length (log .now)) ∷ [])) ∷ ‵ (flft κ₀ q₀) ∷ ‵ (flft κ₁ q₁) ∷ ‵ (flft κ₂ q₂) ∷ ‵ (flft κ₃ q₃) ∷ [])) (Post (vstruct (vcons (valD (D .get d)) (vcons (N .val a) vnil)))))
-            (𝓣 : Tables 𝓤 H) (fm : FmC 𝓤 H (W .laws) (𝓣 .C)) (met₁ : (ν b : ℕ) (δ : GName) → ent 𝓤 (to-start ν b δ) (𝓣 .C f₁ (vptr b 0 ∷ P .val op ∷ []) (Q₁ ν b δ))) (met₂ : (a : N .row .Denot) → ent 𝓤 (to-test a) (𝓣 .C f₂ (N .val a ∷ []) (Q₂ a)))
-            (met₃ : (d : D .row .Denot) → ent 𝓤 (to-reply d) (𝓣 .C f₃ (S .val (D .get d) ∷ sliceVal (replies .ptr) (length (replies .now)) ∷ []) (Q₃ d)))
-            (met₄ : (ν ρ₁ ρ₂ b : ℕ) (δ ε₁ ε₂ : GName) (d : D .row .Denot) (stored logged : List ℕ) (r : R .row .Denot) → length stored ≡ length (buffer .now) → length logged ≡ length (log .now) → ent 𝓤 (to-step ν ρ₁ ρ₂ b δ ε₁ ε₂ d stored logged r) (𝓣 .C f₄ (vptr b 0 ∷ sliceVal (bytes .ptr) (length (bytes .now)) ∷ sliceVal (buffer .ptr) (length (buffer .now)) ∷ sliceVal (log .ptr) (length (log .now)) ∷ R .val r ∷ []) (Q₄ ν ρ₁ ρ₂ b δ ε₁ ε₂ d stored logged r)))
+            → ent 𝓤 (⋆ 𝓤 H A (‵ (MutSlice (named 1) κ₁ u8 .own (lent-at buffer (buffer .name) stored) (slice buffer ∷ [])) ∷ ‵ (MutSlice (named 1) κ₂ u32 .own (lent-at log (log .name) logged) (slice log ∷ [])) ∷ ‵ (flft κ₀ q₀) ∷ ‵ (flft κ₁ q₁) ∷ ‵ (flft κ₂ q₂) ∷ ‵ (flft κ₃ q₃) ∷ [])) (Post (vstruct (vcons (valD (D .get d)) (vcons (N .val a) vnil)))))
+            (𝓣 : Tables 𝓤 H) (fm : FmC 𝓤 H (W .laws) (𝓣 .C)) (start-meets : (ν b : ℕ) (δ : GName) → ent 𝓤 (to-start ν b δ) (𝓣 .C #start (vptr b 0 ∷ P .val op ∷ []) (Q-start ν b δ))) (test-meets : (a : N .row .Denot) → ent 𝓤 (to-test a) (𝓣 .C #test (N .val a ∷ []) (Q-test a)))
+            (reply-meets : (d : D .row .Denot) → ent 𝓤 (to-reply d) (𝓣 .C #reply (S .val (D .get d) ∷ slice replies ∷ []) (Q-reply d)))
+            (step-meets : (ν ρ₁ ρ₂ b : ℕ) (δ ε₁ ε₂ : GName) (d : D .row .Denot) (stored logged : List ℕ) (r : R .row .Denot) → ent 𝓤 (to-step ν ρ₁ ρ₂ b δ ε₁ ε₂ d stored logged r) (𝓣 .C #step (vptr b 0 ∷ slice bytes ∷ slice buffer ∷ slice log ∷ R .val r ∷ []) (Q-step ν ρ₁ ρ₂ b δ ε₁ ε₂ d stored logged r)))
             (is-driver : Is (D .row) driver (valD (D .get driver) ∷ [])) (is-op : Is (P .row) op (P .val op ∷ [])) (bytes-room : Room u8 (length (bytes .now))) (buffer-room : Room u8 (length (buffer .now))) (log-room : Room u32 (length (log .now))) (replies-room : Room u32 (length (replies .now))) where
           abbrev C : Calls 𝓤 H
           C = 𝓣 .C
@@ -134,52 +156,119 @@ module _ {M : Type 1} {𝓤 : URA M} {H : Heap 𝓤} {A : Atoms 𝓤} (S N P R :
 
           module _ (l₀ l₁ l₂ l₃ l₄ l₅ l₆ l₇ l₈ l₉ l₁₀ l₁₁ l₁₂ l₁₃ l₁₄ l₁₅ l₁₆ l₁₇ l₁₈ : ℕ) where
             abbrev En : Env 𝓤 H
-            En = (τR, l₀) ∷ (τD, l₁) ∷ (P .ty, l₂) ∷ (sliceTy (named 0) imm w8, l₃) ∷ (sliceTy (named 1) mut w8, l₄) ∷ (sliceTy (named 2) mut w32, l₅) ∷ (sliceTy (named 3) imm w32, l₆) ∷ (τD, l₇) ∷ (N .ty, l₈) ∷ (R .ty, l₉) ∷ (tyRef erased mut (tyNamed (D .name, [])), l₁₀) ∷ (tyBool, l₁₁) ∷ (S .ty, l₁₂) ∷ (tyRef erased mut (tyNamed (D .name, [])), l₁₃) ∷ (tyRef erased mut (tyInt w8), l₁₄) ∷ (sliceTy (erased) mut w8, l₁₅) ∷ (tyRef erased mut (tyInt w32), l₁₆) ∷ (sliceTy (erased) mut w32, l₁₇) ∷ (τD, l₁₈) ∷ []
+            En = (τR, l₀) ∷ (τD, l₁) ∷ (P .ty, l₂) ∷ (sliceTy (named 0) imm w8, l₃) ∷ (sliceTy (named 1) mut w8, l₄) ∷ (sliceTy (named 2) mut w32, l₅) ∷ (sliceTy (named 3) imm w32, l₆) ∷ (τD, l₇) ∷ (N .ty, l₈) ∷ (R .ty, l₉) ∷ (tyRef erased mut (tyNamed (D .name, [])), l₁₀) ∷ (tyBool, l₁₁) ∷ (S .ty, l₁₂) ∷ (tyRef erased mut (tyNamed (D .name, [])), l₁₃) ∷ (tyRef erased mut (tyInt w8), l₁₄) ∷ (sliceTy erased mut w8, l₁₅) ∷ (tyRef erased mut (tyInt w32), l₁₆) ∷ (sliceTy erased mut w32, l₁₇) ∷ (τD, l₁₈) ∷ []
 
             abbrev At : State → List (Item 𝓤)
-            At t = ‵ (froom (τD) l₁₈ 0) ∷ ‵ (fdies (τD) l₁₈) ∷ ‵ (froom (sliceTy (erased) mut w32) l₁₇ 0) ∷ ‵ (fdies (sliceTy (erased) mut w32) l₁₇) ∷ ‵ (froom (tyRef erased mut (tyInt w32)) l₁₆ 0) ∷ ‵ (fdies (tyRef erased mut (tyInt w32)) l₁₆) ∷ ‵ (froom (sliceTy (erased) mut w8) l₁₅ 0) ∷ ‵ (fdies (sliceTy (erased) mut w8) l₁₅) ∷ ‵ (froom (tyRef erased mut (tyInt w8)) l₁₄ 0) ∷ ‵ (fdies (tyRef erased mut (tyInt w8)) l₁₄) ∷ ‵ (froom (tyRef erased mut (tyNamed (D .name, []))) l₁₃ 0) ∷ ‵ (fdies (tyRef erased mut (tyNamed (D .name, []))) l₁₃) ∷ ‵ (froom (S .ty) l₁₂ 0) ∷ ‵ (fdies (S .ty) l₁₂) ∷ ‵ (froom (tyBool) l₁₁ 0) ∷ ‵ (fdies (tyBool) l₁₁) ∷ ‵ (froom (tyRef erased mut (tyNamed (D .name, []))) l₁₀ 0) ∷ ‵ (fdies (tyRef erased mut (tyNamed (D .name, []))) l₁₀) ∷ ‵ (froom (R .ty) l₉ 0) ∷ ‵ (fdies (R .ty) l₉) ∷ ‵ (fat fullShare (N .ty) l₈ 0 (N .val (t .answer))) ∷ ‵ (fdies (N .ty) l₈) ∷ ‵ (fat fullShare (τD) l₇ 0 (valD (D .get (t .held)))) ∷ ‵ (fdies (τD) l₇) ∷ ‵ (fat fullShare (sliceTy (named 3) imm w32) l₆ 0 (sliceVal (replies .ptr) (length (replies .now)))) ∷ ‵ (fdies (sliceTy (named 3) imm w32) l₆) ∷ ‵ (fat fullShare (sliceTy (named 2) mut w32) l₅ 0 (sliceVal (log .ptr) (length (log .now)))) ∷ ‵ (fdies (sliceTy (named 2) mut w32) l₅) ∷ ‵ (fat fullShare (sliceTy (named 1) mut w8) l₄ 0 (sliceVal (buffer .ptr) (length (buffer .now)))) ∷ ‵ (fdies (sliceTy (named 1) mut w8) l₄) ∷ ‵ (fat fullShare (sliceTy (named 0) imm w8) l₃ 0 (sliceVal (bytes .ptr) (length (bytes .now)))) ∷ ‵ (fdies (sliceTy (named 0) imm w8) l₃) ∷ ‵ (fat fullShare (P .ty) l₂ 0 (P .val op)) ∷ ‵ (fdies (P .ty) l₂) ∷ ‵ (fat fullShare (τD) l₁ 0 (valD (D .get driver))) ∷ ‵ (fdies (τD) l₁) ∷ ‵ (froom (τR) l₀ 0) ∷ ‵ (fdies (τR) l₀) ∷ ‵ (D .row .own (t .held) (valD (D .get (t .held)) ∷ [])) ∷ ‵ (N .row .own (t .answer) (N .val (t .answer) ∷ [])) ∷ ‵ (MutSlice (named 1) κ₁ u8 .own (lent-at buffer (buffer .name) (t .stored)) (sliceVal (buffer .ptr) (length (buffer .now)) ∷ [])) ∷ ‵ (MutSlice (named 1) κ₂ u32 .own (lent-at log (log .name) (t .logged)) (sliceVal (log .ptr) (length (log .now)) ∷ [])) ∷ ‵ Bytes ∷ ‵ Replies ∷ ‵ (flft κ₀ q₀) ∷ ‵ (flft κ₁ q₁) ∷ ‵ (flft κ₂ q₂) ∷ ‵ (flft κ₃ q₃) ∷ []
+            At t = ‵ (froom τD l₁₈ 0) ∷ ‵ (fdies τD l₁₈) ∷ ‵ (froom (sliceTy erased mut w32) l₁₇ 0) ∷ ‵ (fdies (sliceTy erased mut w32) l₁₇) ∷ ‵ (froom (tyRef erased mut (tyInt w32)) l₁₆ 0) ∷ ‵ (fdies (tyRef erased mut (tyInt w32)) l₁₆) ∷ ‵ (froom (sliceTy erased mut w8) l₁₅ 0) ∷ ‵ (fdies (sliceTy erased mut w8) l₁₅) ∷ ‵ (froom (tyRef erased mut (tyInt w8)) l₁₄ 0) ∷ ‵ (fdies (tyRef erased mut (tyInt w8)) l₁₄) ∷ ‵ (froom (tyRef erased mut (tyNamed (D .name, []))) l₁₃ 0) ∷ ‵ (fdies (tyRef erased mut (tyNamed (D .name, []))) l₁₃) ∷ ‵ (froom (S .ty) l₁₂ 0) ∷ ‵ (fdies (S .ty) l₁₂) ∷ ‵ (froom tyBool l₁₁ 0) ∷ ‵ (fdies tyBool l₁₁) ∷ ‵ (froom (tyRef erased mut (tyNamed (D .name, []))) l₁₀ 0) ∷ ‵ (fdies (tyRef erased mut (tyNamed (D .name, []))) l₁₀) ∷ ‵ (froom (R .ty) l₉ 0) ∷ ‵ (fdies (R .ty) l₉) ∷ ‵ (fat fullShare (N .ty) l₈ 0 (N .val (t .answer))) ∷ ‵ (fdies (N .ty) l₈) ∷ ‵ (fat fullShare τD l₇ 0 (valD (D .get (t .held)))) ∷ ‵ (fdies τD l₇) ∷ ‵ (fat fullShare (sliceTy (named 3) imm w32) l₆ 0 (slice replies)) ∷ ‵ (fdies (sliceTy (named 3) imm w32) l₆) ∷ ‵ (fat fullShare (sliceTy (named 2) mut w32) l₅ 0 (slice log)) ∷ ‵ (fdies (sliceTy (named 2) mut w32) l₅) ∷ ‵ (fat fullShare (sliceTy (named 1) mut w8) l₄ 0 (slice buffer)) ∷ ‵ (fdies (sliceTy (named 1) mut w8) l₄) ∷ ‵ (fat fullShare (sliceTy (named 0) imm w8) l₃ 0 (slice bytes)) ∷ ‵ (fdies (sliceTy (named 0) imm w8) l₃) ∷ ‵ (fat fullShare (P .ty) l₂ 0 (P .val op)) ∷ ‵ (fdies (P .ty) l₂) ∷ ‵ (fat fullShare τD l₁ 0 (valD (D .get driver))) ∷ ‵ (fdies τD l₁) ∷ ‵ (froom τR l₀ 0) ∷ ‵ (fdies τR l₀) ∷ ‵ (D .row .own (t .held) (valD (D .get (t .held)) ∷ [])) ∷ ‵ (N .row .own (t .answer) (N .val (t .answer) ∷ [])) ∷ ‵ (MutSlice (named 1) κ₁ u8 .own (lent-at buffer (buffer .name) (t .stored)) (slice buffer ∷ [])) ∷ ‵ (MutSlice (named 1) κ₂ u32 .own (lent-at log (log .name) (t .logged)) (slice log ∷ [])) ∷ ‵ Bytes ∷ ‵ Replies ∷ ‵ (flft κ₀ q₀) ∷ ‵ (flft κ₁ q₁) ∷ ‵ (flft κ₂ q₂) ∷ ‵ (flft κ₃ q₃) ∷ []
 
             abbrev Turned : State → Out → SProp 𝓤
             Turned t = afterTurn 𝓤 H (Below 𝓤 H A Nearer At t) (afterBlock 𝓤 H (afterSeq 𝓤 H (Wp 𝓤 H C Λ En after-loop (atReturn 𝓤 H En Post)) (atReturn 𝓤 H En Post)))
 
-          turns : (l₀ l₁ l₂ l₃ l₄ l₅ l₆ l₇ l₈ l₉ l₁₀ l₁₁ l₁₂ l₁₃ l₁₄ l₁₅ l₁₆ l₁₇ l₁₈ : ℕ) (t : State) → Sq W (At l₀ l₁ l₂ l₃ l₄ l₅ l₆ l₇ l₈ l₉ l₁₀ l₁₁ l₁₂ l₁₃ l₁₄ l₁₅ l₁₆ l₁₇ l₁₈ t) (runs C Λ (En l₀ l₁ l₂ l₃ l₄ l₅ l₆ l₇ l₈ l₉ l₁₀ l₁₁ l₁₂ l₁₃ l₁₄ l₁₅ l₁₆ l₁₇ l₁₈) turn (anyQ (Turned l₀ l₁ l₂ l₃ l₄ l₅ l₆ l₇ l₈ l₉ l₁₀ l₁₁ l₁₂ l₁₃ l₁₄ l₁₅ l₁₆ l₁₇ l₁₈ t)))
-          unfolding afterTurn
-          turns l₀ l₁ l₂ l₃ l₄ l₅ l₆ l₇ l₈ l₉ l₁₀ l₁₁ l₁₂ l₁₃ l₁₄ l₁₅ l₁₆ l₁₇ l₁₈ t =
-              -- the test
-              move ! (39 ∷ []) $ peeks ! (N .row) (Is (N .row)) (shows 𝓤 H A (N .row)) (t .answer) (N .val (t .answer) ∷ []) (λ is. nothing ! $ move ! (1 ∷ 0 ∷ []) $ fjoin ! $ nothing ! $ join ! $ calls-from ! fm (‵ ftrue ⊛ ‵ (owns (N .row ∷ []) (t .answer, tt) (N .val (t .answer) ∷ [], tt))) (N .val (t .answer) ∷ []) (Q₂ (t .answer)) (met₂ (t .answer)) (and-then ! (load ! (from ! (stop !)) (look ! 21 refl)) (no-more !)) (λ u. use1 W (later (some (λ (y : Bool). ‵ (bool .own y (u ∷ [])) ⊛ raw (fact 𝓤 (y ≡ under (t .answer)))))) (back₂ (t .answer) u) $ await ! tt $ pick ! (λ y. split ! $ move ! (1 ∷ []) $ heard ! (y ≡ under (t .answer)) (λ f. peeks ! bool (Is bool) (shows 𝓤 H A bool) y (u ∷ []) (λ is-y. land ! (from ! (stop !)) (init ! 15 refl (bool-lawful 𝓤 H A W .typed y _ is-y .0)) $ rewrite ! 15 (λ (x : Val). ‵ (fat fullShare tyBool l₁₁ 0 x)) (ap only is-y) refl $ drop ! $ owned ! (N .row) (Is (N .row)) (N .makes) (t .answer) _ is $
-              first ! $ branches ! (load ! (from ! (stop !)) (look ! 15 refl))
-              (λ held. skips ! $ exec ! C Λ (En l₀ l₁ l₂ l₃ l₄ l₅ l₆ l₇ l₈ l₉ l₁₀ l₁₁ l₁₂ l₁₃ l₁₄ l₁₅ l₁₆ l₁₇ l₁₈) after-test (anyQ (Turned l₀ l₁ l₂ l₃ l₄ l₅ l₆ l₇ l₈ l₉ l₁₀ l₁₁ l₁₂ l₁₃ l₁₄ l₁₅ l₁₆ l₁₇ l₁₈ t)) $
-              -- the reply
-              move ! (39 ∷ []) $ peeks ! (D .row) (Is (D .row)) (shows 𝓤 H A (D .row)) (t .held) (valD (D .get (t .held)) ∷ []) (λ g. assigns ! (of-opd ! (load ! (from ! (fld ! refl (stop !))) (look-in ! 24 (sub ! 0 refl (whole !))))) (from ! (stop !)) (init ! 14 refl (S .typed (D .get (t .held)) _ (D .owed (t .held) _ g))) $ move ! (43 ∷ []) $ use1 W (‵ Replies ⊛ ‵ Replies) (shr-slice-copy 𝓤 H A W (named 3) κ₃ u32 .twice replies (sliceVal (replies .ptr) (length (replies .now)) ∷ [])) $ split ! $ nothing ! $ move ! (2 ∷ 0 ∷ []) $ fjoin ! $ owned ! (S .row) (Is (S .row)) (S .makes) (D .get (t .held)) _ (D .owed (t .held) _ g) $ fjoin ! $ nothing ! $ move ! (49 ∷ 0 ∷ []) $ join ! $ join ! $ calls-from ! fm ((‵ (flft κ₃ q₃) ⊛ ‵ ftrue) ⊛ ‵ (owns (S .row ∷ ShrSlice (named 0) κ₃ u32 ∷ []) (D .get (t .held), (replies, tt)) (S .val (D .get (t .held)) ∷ [], (sliceVal (replies .ptr) (length (replies .now)) ∷ [], tt)))) (S .val (D .get (t .held)) ∷ sliceVal (replies .ptr) (length (replies .now)) ∷ []) (Q₃ (t .held)) (met₃ (t .held)) (and-then ! (load ! (from ! (stop !)) (look ! 16 refl)) (and-then ! (load ! (from ! (stop !)) (look ! 28 refl)) (no-more !))) (λ w.
-              use1 W (later (some (λ (r : R .row .Denot). (‵ (flft κ₃ q₃) ⊛ ‵ (R .row .own r (w ∷ []))) ⊛ raw (fact 𝓤 (Replied (t .held) r))))) (back₃ (t .held) w) $ await ! tt $ pick ! (λ r. split ! $ move ! (1 ∷ []) $ heard ! (Replied (t .held) r) (λ e. split ! $ move ! (1 ∷ []) $ peeks ! (R .row) (Is (R .row)) (shows 𝓤 H A (R .row)) r (w ∷ []) (λ is-r. land ! (from ! (stop !)) (init ! 23 refl (R .typed r _ is-r)) $ rewrite ! 23 (λ (x : Val). ‵ (fat fullShare (R .ty) l₉ 0 x)) (ap only (R .tells r _ is-r)) refl $ rewrite ! 0 (λ (x : Val). ‵ (R .row .own r (x ∷ []))) (ap only (R .tells r _ is-r)) refl $
-              -- driver, buffer and log are lent
-              assigns ! (addr ! (from ! (stop !))) (from ! (stop !)) (init ! 15 refl (tt, tt)) $ assigns ! (addr ! (from ! (fld ! refl (hop ! (look-in ! 33 (sub ! 0 refl (whole !))) (stop !))))) (from ! (stop !)) (init ! 13 refl (tt, tt)) $ assigns ! (agg ! (and-then ! (load ! (from ! (stop !)) (look ! 13 refl)) (and-then ! (load ! (from ! (fld ! refl (stop !))) (look-in ! 33 (sub ! 1 refl (whole !)))) (no-more !)))) (from ! (stop !)) (init ! 11 refl (tt, (tt, (record { fits = buffer-room .0 }, tt)))) $ assigns ! (addr ! (from ! (fld ! refl (hop ! (look-in ! 31 (sub ! 0 refl (whole !))) (stop !))))) (from ! (stop !)) (init ! 9 refl (tt, tt)) $ assigns ! (agg ! (and-then ! (load ! (from ! (stop !)) (look ! 9 refl)) (and-then ! (load ! (from ! (fld ! refl (stop !))) (look-in ! 31 (sub ! 1 refl (whole !)))) (no-more !)))) (from ! (stop !)) (init ! 7 refl (tt, (tt, (record { fits = log-room .0 }, tt)))) $
-              lft-new ! tt (λ ν. move ! (28 ∷ 4 ∷ []) $ use2 W (later (some (λ (δ : GName). ‵ (MutRef (named 0) (ν ∷ []) (D .row) .own (record { ptr = (l₇, 0); name = δ; now = t .held }) (vptr l₇ 0 ∷ [])) ⊛ ‵ (flent (ν ∷ []) (Body (mem (D .row)) l₇ 0 δ))))) (lends-local 𝓤 H A W (D .row) τD (λ y. valD (D .get y)) (D .tells) l₇ (D .shut fullShare l₇ 0) (D .opened fullShare l₇ 0) (named 0) (ν ∷ []) (t .held) (valD (D .get (t .held)))) $ await ! tt $ pick ! (λ δ. split ! $
-              lft-new ! tt (λ ρ₁. move ! (45 ∷ 49 ∷ []) $ use2 W (later (some (λ (ε : GName). ‵ (MutSlice (named 2) (ρ₁ ∷ []) u8 .own (lent-at buffer ε (t .stored)) (sliceVal (buffer .ptr) (length (buffer .now)) ∷ [])) ⊛ ‵ (LentAgain u8 κ₁ (ρ₁ ∷ []) q₁ (buffer .name) (buffer .ptr .0) (buffer .ptr .1) ε (t .stored))))) (lends-again-at u8 κ₁ (ρ₁ ∷ []) q₁ (buffer .name) (buffer .ptr .0) (buffer .ptr .1) 𝓤 H A W (named 1) (named 2) (t .stored) (length (buffer .now)) (sym (wide t))) $ await ! tt $ pick ! (λ ε₁. split ! $
-              lft-new ! tt (λ ρ₂. move ! (48 ∷ 51 ∷ []) $ use2 W (later (some (λ (ε : GName). ‵ (MutSlice (named 2) (ρ₂ ∷ []) u32 .own (lent-at log ε (t .logged)) (sliceVal (log .ptr) (length (log .now)) ∷ [])) ⊛ ‵ (LentAgain u32 κ₂ (ρ₂ ∷ []) q₂ (log .name) (log .ptr .0) (log .ptr .1) ε (t .logged))))) (lends-again-at u32 κ₂ (ρ₂ ∷ []) q₂ (log .name) (log .ptr .0) (log .ptr .1) 𝓤 H A W (named 1) (named 2) (t .logged) (length (log .now)) (sym (long t))) $ await ! tt $ pick ! (λ ε₂. split ! $
-              move ! (50 ∷ []) $ use1 W (‵ Bytes ⊛ ‵ Bytes) (shr-slice-copy 𝓤 H A W (named 0) κ₀ u8 .twice bytes (sliceVal (bytes .ptr) (length (bytes .now)) ∷ [])) $ split ! $ forget ! 35 refl $
-              -- the step
-              nothing ! $ move ! (12 ∷ 0 ∷ []) $ fjoin ! $ move ! (3 ∷ 0 ∷ []) $ fjoin ! $ move ! (5 ∷ 0 ∷ []) $ fjoin ! $ move ! (2 ∷ 0 ∷ []) $ fjoin ! $ move ! (6 ∷ 0 ∷ []) $ fjoin ! $ nothing ! $ move ! (4 ∷ 0 ∷ []) $ join ! $ move ! (5 ∷ 0 ∷ []) $ join ! $ move ! (47 ∷ 0 ∷ []) $ join ! $ move ! (6 ∷ 0 ∷ []) $ join ! $ join ! $ calls-from-last ! fm ((‵ (flft (ν ∷ []) fullShare) ⊛ ‵ (flft κ₀ q₀) ⊛ ‵ (flft (ρ₁ ∷ []) fullShare) ⊛ ‵ (flft (ρ₂ ∷ []) fullShare) ⊛ ‵ ftrue) ⊛ ‵ (owns (MutRef (named 0) (ν ∷ []) (D .row) ∷ ShrSlice (named 1) κ₀ u8 ∷ MutSlice (named 2) (ρ₁ ∷ []) u8 ∷ MutSlice (named 3) (ρ₂ ∷ []) u32 ∷ R .row ∷ []) (record { ptr = (l₇, 0); name = δ; now = t .held }, (bytes, (lent-at buffer ε₁ (t .stored), (lent-at log ε₂ (t .logged), (r, tt))))) (vptr l₇ 0 ∷ [], (sliceVal (bytes .ptr) (length (bytes .now)) ∷ [], (sliceVal (buffer .ptr) (length (buffer .now)) ∷ [], (sliceVal (log .ptr) (length (log .now)) ∷ [], (R .val r ∷ [], tt))))))) (vptr l₇ 0 ∷ sliceVal (bytes .ptr) (length (bytes .now)) ∷ sliceVal (buffer .ptr) (length (buffer .now)) ∷ sliceVal (log .ptr) (length (log .now)) ∷ R .val r ∷ []) (Q₄ ν ρ₁ ρ₂ l₇ δ ε₁ ε₂ (t .held) (t .stored) (t .logged) r) (met₄ ν ρ₁ ρ₂ l₇ δ ε₁ ε₂ (t .held) (t .stored) (t .logged) r (wide t) (long t)) (and-then ! (load ! (from ! (stop !)) (look ! 18 refl)) (and-then ! (load ! (from ! (stop !)) (look ! 37 refl)) (and-then ! (load ! (from ! (stop !)) (look ! 14 refl)) (and-then ! (load ! (from ! (stop !)) (look ! 10 refl)) (and-then ! (load ! (from ! (stop !)) (look ! 26 refl)) (no-more !)))))) (λ w₂.
-              use1 W (later (some (λ (a : N .row .Denot). some (λ (z : D .row .Denot × (List ℕ × List ℕ)). ((‵ (flft (ν ∷ []) fullShare) ⊛ (‵ (flft κ₀ q₀) ⊛ (‵ (flft (ρ₁ ∷ []) fullShare) ⊛ ‵ (flft (ρ₂ ∷ []) fullShare)))) ⊛ (‵ (fres δ (D .row .coded .code (z .0))) ⊛ (‵ (finally u8 ε₁ (z .1 .0)) ⊛ (‵ (finally u32 ε₂ (z .1 .1)) ⊛ ‵ (N .row .own a (w₂ ∷ [])))))) ⊛ raw (fact 𝓤 (Stepped (t .held) (t .stored) (t .logged) r (z .0) a (z .1 .0) (z .1 .1))))))) (back₄ ν ρ₁ ρ₂ l₇ δ ε₁ ε₂ (t .held) (t .stored) (t .logged) r w₂) $ await ! tt $ pick ! (λ a. pick ! (λ z. split ! $ move ! (1 ∷ []) $ heard ! (Stepped (t .held) (t .stored) (t .logged) r (z .0) a (z .1 .0) (z .1 .1)) (λ s. split ! $ split ! $ move ! (1 ∷ []) $ split ! $ move ! (1 ∷ []) $ split ! $ move ! (4 ∷ []) $ split ! $ move ! (1 ∷ []) $ split ! $ move ! (1 ∷ []) $ split ! $
-              -- they come back
-              move ! (7 ∷ []) $ lft-end ! tt $ move ! (0 ∷ 11 ∷ 4 ∷ []) $ use3 W (later (‵ (fat fullShare τD l₇ 0 (valD (D .get (z .0)))) ⊛ ‵ (D .row .own (z .0) (valD (D .get (z .0)) ∷ [])))) (local-back 𝓤 H A W (D .row) τD (λ y. valD (D .get y)) (D .tells) l₇ (D .shut fullShare l₇ 0) (D .opened fullShare l₇ 0) (ν ∷ []) δ (z .0)) $ await ! tt $ split ! $
-              move ! (5 ∷ []) $ lft-end ! tt $ move ! (0 ∷ 10 ∷ 5 ∷ []) $ use3 W (later (‵ (MutSlice (named 1) κ₁ u8 .own (lent-at buffer (buffer .name) (z .1 .0)) (sliceVal (buffer .ptr) (length (buffer .now)) ∷ [])) ⊛ ‵ (flft κ₁ q₁))) (comes-back-at u8 κ₁ (ρ₁ ∷ []) q₁ (buffer .name) (buffer .ptr .0) (buffer .ptr .1) 𝓤 H A W (named 1) (named 2) (t .stored) (length (buffer .now)) (sym (wide t)) ε₁ (z .1 .0) (subst (Room u8) (sym (wide t)) buffer-room) (kept-buffer t r (z .0) a (z .1 .0) (z .1 .1) s)) $ await ! tt $ split ! $
-              move ! (6 ∷ []) $ lft-end ! tt $ move ! (0 ∷ 9 ∷ 5 ∷ []) $ use3 W (later (‵ (MutSlice (named 1) κ₂ u32 .own (lent-at log (log .name) (z .1 .1)) (sliceVal (log .ptr) (length (log .now)) ∷ [])) ⊛ ‵ (flft κ₂ q₂))) (comes-back-at u32 κ₂ (ρ₂ ∷ []) q₂ (log .name) (log .ptr .0) (log .ptr .1) 𝓤 H A W (named 1) (named 2) (t .logged) (length (log .now)) (sym (long t)) ε₂ (z .1 .1) (subst (Room u32) (sym (long t)) log-room) (kept-log t r (z .0) a (z .1 .0) (z .1 .1) s)) $ await ! tt $ split ! $
-              move ! (11 ∷ []) $ drop ! $ move ! (6 ∷ []) $ peeks ! (N .row) (Is (N .row)) (shows 𝓤 H A (N .row)) a (w₂ ∷ []) (λ is-a. land-last ! (from ! (stop !)) (init ! 31 refl (N .typed a _ is-a)) $ rewrite ! 31 (λ (x : Val). ‵ (fat fullShare (N .ty) l₈ 0 x)) (ap only (N .tells a _ is-a)) refl $ rewrite ! 0 (λ (x : Val). ‵ (N .row .own a (x ∷ []))) (ap only (N .tells a _ is-a)) refl $ forget ! 13 refl $ forget ! 15 refl $ forget ! 17 refl $ forget ! 19 refl $ forget ! 21 refl $ forget ! 23 refl $ forget ! 25 refl $ forget ! 29 refl $ move ! (11 ∷ 12 ∷ 13 ∷ 14 ∷ 15 ∷ 16 ∷ 17 ∷ 18 ∷ 19 ∷ 20 ∷ 21 ∷ 22 ∷ 23 ∷ 24 ∷ 25 ∷ 26 ∷ 27 ∷ 28 ∷ 29 ∷ 30 ∷ 31 ∷ 32 ∷ 5 ∷ 33 ∷ 34 ∷ 35 ∷ 36 ∷ 37 ∷ 38 ∷ 39 ∷ 40 ∷ 41 ∷ 42 ∷ 43 ∷ 44 ∷ 45 ∷ 46 ∷ 47 ∷ 6 ∷ 0 ∷ 3 ∷ 1 ∷ 8 ∷ 10 ∷ 7 ∷ 4 ∷ 2 ∷ 9 ∷ []) $ again ! Nearer (At l₀ l₁ l₂ l₃ l₄ l₅ l₆ l₇ l₈ l₉ l₁₀ l₁₁ l₁₂ l₁₃ l₁₄ l₁₅ l₁₆ l₁₇ l₁₈) t (record { held = z .0; answer = a; stored = z .1 .0; logged = z .1 .1; good = goes-on t r (z .0) a (z .1 .0) (z .1 .1) (sym f ∙ holds y held) e s }) (nearer t r (z .0) a (z .1 .0) (z .1 .1) (sym f ∙ holds y held) e s))))))))))))))))))
-              (λ over. jumps ! $ exec ! C Λ (En l₀ l₁ l₂ l₃ l₄ l₅ l₆ l₇ l₈ l₉ l₁₀ l₁₁ l₁₂ l₁₃ l₁₄ l₁₅ l₁₆ l₁₇ l₁₈) after-loop (atRet (En l₀ l₁ l₂ l₃ l₄ l₅ l₆ l₇ l₈ l₉ l₁₀ l₁₁ l₁₂ l₁₃ l₁₄ l₁₅ l₁₆ l₁₇ l₁₈) Post) $ move ! (39 ∷ []) $ peeks ! (D .row) (Is (D .row)) (shows 𝓤 H A (D .row)) (t .held) (valD (D .get (t .held)) ∷ []) (λ g. assigns ! (of-opd ! (load ! (from ! (stop !)) (look ! 24 refl))) (from ! (stop !)) (init ! 2 refl (D .typed (t .held) _ g)) $ assigns ! (agg ! (and-then ! (load ! (from ! (stop !)) (look ! 2 refl)) (and-then ! (load ! (from ! (stop !)) (look ! 22 refl)) (no-more !)))) (from ! (stop !)) (init ! 38 refl (B .typed (B .make (t .held) (t .answer)) _ (B .owes (t .held) (t .answer) g is))) $ returns ! (look ! 38 refl) $ forget ! 2 refl $ forget ! 16 refl $ forget ! 22 refl $ forget ! 24 refl $ forget ! 26 refl $ forget ! 28 refl $ forget ! 30 refl $ forget ! 32 refl $ forget ! 34 refl $ forget ! 36 refl $ forget ! 38 refl $
-              move ! (38 ∷ 39 ∷ []) $ free1 ! $ move ! (36 ∷ 37 ∷ []) $ free1 ! $ move ! (34 ∷ 35 ∷ []) $ free1 ! $ move ! (32 ∷ 33 ∷ []) $ free1 ! $ move ! (30 ∷ 31 ∷ []) $ free1 ! $ move ! (28 ∷ 29 ∷ []) $ free1 ! $ move ! (26 ∷ 27 ∷ []) $ free1 ! $ move ! (24 ∷ 25 ∷ []) $ free1 ! $ move ! (22 ∷ 23 ∷ []) $ free1 ! $ move ! (20 ∷ 21 ∷ []) $ free1 ! $ move ! (18 ∷ 19 ∷ []) $ free1 ! $ move ! (16 ∷ 17 ∷ []) $ free1 ! $ move ! (14 ∷ 15 ∷ []) $ free1 ! $ move ! (12 ∷ 13 ∷ []) $ free1 ! $ move ! (10 ∷ 11 ∷ []) $ free1 ! $ move ! (8 ∷ 9 ∷ []) $ free1 ! $ move ! (6 ∷ 7 ∷ []) $ free1 ! $ move ! (4 ∷ 5 ∷ []) $ free1 ! $ move ! (2 ∷ 3 ∷ []) $ free1 ! $ free0 ! $
-              keep ! (2 ∷ 3 ∷ 6 ∷ 7 ∷ 8 ∷ 9 ∷ []) $ by ! (exits (t .held) (t .answer) (t .stored) (t .logged) g is (t .good) (sym f ∙ fails y over)))))))))
+            turns : (t : State) → Sq W (At t) (runs C Λ En turn (anyQ (Turned t)))
+            unfolding afterTurn
+            turns t =
+                -- the test
+                move ! (39 ∷ []) $ peeks ! (N .row) (Is (N .row)) (shows 𝓤 H A (N .row)) (t .answer) (N .val (t .answer) ∷ []) (λ is. nothing ! $ move ! (1 ∷ 0 ∷ []) $
+                fjoin ! $ nothing ! $ join ! $
+                calls-from ! fm (‵ ftrue ⊛ ‵ (owns (N .row ∷ []) (t .answer, tt) (N .val (t .answer) ∷ [], tt))) (N .val (t .answer) ∷ []) (Q-test (t .answer)) (test-meets (t .answer)) (and-then ! (load ! (from ! (stop !)) (look ! 21 refl)) (no-more !)) (λ u. use1 W (later (some (λ (y : Bool). ‵ (bool .own y (u ∷ [])) ⊛ raw (fact 𝓤 (y ≡ under (t .answer)))))) (test-gives (t .answer) u) $
+                await ! tt $ pick ! (λ y. split ! $ move ! (1 ∷ []) $
+                heard ! (y ≡ under (t .answer)) (λ f. peeks ! bool (Is bool) (shows 𝓤 H A bool) y (u ∷ []) (λ is-y. land ! (from ! (stop !)) (init ! 15 refl (bool-lawful 𝓤 H A W .typed y _ is-y .0)) $
+                rewrite ! 15 (λ (x : Val). ‵ (fat fullShare tyBool l₁₁ 0 x)) (ap only is-y) refl $ drop ! $ owned ! (N .row) (Is (N .row)) (N .makes) (t .answer) _ is $
+                first ! $ branches ! (load ! (from ! (stop !)) (look ! 15 refl))
+                (λ held. skips ! $ exec ! C Λ En after-test (anyQ (Turned t)) $
+                -- the reply
+                move ! (39 ∷ []) $
+                peeks ! (D .row) (Is (D .row)) (shows 𝓤 H A (D .row)) (t .held) (valD (D .get (t .held)) ∷ []) (λ g. assigns ! (of-opd ! (load ! (from ! (fld ! refl (stop !))) (look-in ! 24 (sub ! 0 refl (whole !))))) (from ! (stop !)) (init ! 14 refl (S .typed (D .get (t .held)) _ (D .owed (t .held) _ g))) $
+                move ! (43 ∷ []) $ use1 W (‵ Replies ⊛ ‵ Replies) (shr-slice-copy 𝓤 H A W (named 3) κ₃ u32 .twice replies (slice replies ∷ [])) $ split ! $ nothing ! $
+                move ! (2 ∷ 0 ∷ []) $ fjoin ! $ owned ! (S .row) (Is (S .row)) (S .makes) (D .get (t .held)) _ (D .owed (t .held) _ g) $ fjoin ! $ nothing ! $
+                move ! (49 ∷ 0 ∷ []) $ join ! $ join ! $
+                calls-from ! fm ((‵ (flft κ₃ q₃) ⊛ ‵ ftrue) ⊛ ‵ (owns (S .row ∷ ShrSlice (named 0) κ₃ u32 ∷ []) (D .get (t .held), (replies, tt)) (S .val (D .get (t .held)) ∷ [], (slice replies ∷ [], tt)))) (S .val (D .get (t .held)) ∷ slice replies ∷ []) (Q-reply (t .held)) (reply-meets (t .held)) (and-then ! (load ! (from ! (stop !)) (look ! 16 refl)) (and-then ! (load ! (from ! (stop !)) (look ! 28 refl)) (no-more !))) (λ w.
+                use1 W (later (some (λ (r : R .row .Denot). (‵ (flft κ₃ q₃) ⊛ ‵ (R .row .own r (w ∷ []))) ⊛ raw (fact 𝓤 (Replied (t .held) r))))) (reply-gives (t .held) w) $
+                await ! tt $ pick ! (λ r. split ! $ move ! (1 ∷ []) $ heard ! (Replied (t .held) r) (λ e. split ! $ move ! (1 ∷ []) $
+                peeks ! (R .row) (Is (R .row)) (shows 𝓤 H A (R .row)) r (w ∷ []) (λ is-r. land ! (from ! (stop !)) (init ! 23 refl (R .typed r _ is-r)) $
+                rewrite ! 23 (λ (x : Val). ‵ (fat fullShare (R .ty) l₉ 0 x)) (ap only (R .tells r _ is-r)) refl $
+                rewrite ! 0 (λ (x : Val). ‵ (R .row .own r (x ∷ []))) (ap only (R .tells r _ is-r)) refl $
+                -- driver, buffer and log are lent
+                assigns ! (addr ! (from ! (stop !))) (from ! (stop !)) (init ! 15 refl (tt, tt)) $
+                assigns ! (addr ! (from ! (fld ! refl (hop ! (look-in ! 33 (sub ! 0 refl (whole !))) (stop !))))) (from ! (stop !)) (init ! 13 refl (tt, tt)) $
+                assigns ! (agg ! (and-then ! (load ! (from ! (stop !)) (look ! 13 refl)) (and-then ! (load ! (from ! (fld ! refl (stop !))) (look-in ! 33 (sub ! 1 refl (whole !)))) (no-more !)))) (from ! (stop !)) (init ! 11 refl (tt, (tt, (record { fits = buffer-room .0 }, tt)))) $
+                assigns ! (addr ! (from ! (fld ! refl (hop ! (look-in ! 31 (sub ! 0 refl (whole !))) (stop !))))) (from ! (stop !)) (init ! 9 refl (tt, tt)) $
+                assigns ! (agg ! (and-then ! (load ! (from ! (stop !)) (look ! 9 refl)) (and-then ! (load ! (from ! (fld ! refl (stop !))) (look-in ! 31 (sub ! 1 refl (whole !)))) (no-more !)))) (from ! (stop !)) (init ! 7 refl (tt, (tt, (record { fits = log-room .0 }, tt)))) $
+                lft-new ! tt (λ ν. move ! (28 ∷ 4 ∷ []) $
+                use2 W (later (some (λ (δ : GName). ‵ (MutRef (named 0) (ν ∷ []) (D .row) .own (record { ptr = (l₇, 0); name = δ; now = t .held }) (vptr l₇ 0 ∷ [])) ⊛ ‵ (flent (ν ∷ []) (Body (mem (D .row)) l₇ 0 δ))))) (lends-local 𝓤 H A W (D .row) τD (λ y. valD (D .get y)) (D .tells) l₇ (D .shut fullShare l₇ 0) (D .opened fullShare l₇ 0) (named 0) (ν ∷ []) (t .held) (valD (D .get (t .held)))) $
+                await ! tt $ pick ! (λ δ. split ! $
+                lft-new ! tt (λ ρ₁. move ! (45 ∷ 49 ∷ []) $
+                use2 W (later (some (λ (ε : GName). ‵ (MutSlice (named 2) (ρ₁ ∷ []) u8 .own (lent-at buffer ε (t .stored)) (slice buffer ∷ [])) ⊛ ‵ (LentAgain u8 κ₁ (ρ₁ ∷ []) q₁ (buffer .name) (buffer .ptr .0) (buffer .ptr .1) ε (t .stored))))) (lends-again-at u8 κ₁ (ρ₁ ∷ []) q₁ (buffer .name) (buffer .ptr .0) (buffer .ptr .1) 𝓤 H A W (named 1) (named 2) (t .stored) (length (buffer .now)) (sym (wide t))) $
+                await ! tt $ pick ! (λ ε₁. split ! $
+                lft-new ! tt (λ ρ₂. move ! (48 ∷ 51 ∷ []) $
+                use2 W (later (some (λ (ε : GName). ‵ (MutSlice (named 2) (ρ₂ ∷ []) u32 .own (lent-at log ε (t .logged)) (slice log ∷ [])) ⊛ ‵ (LentAgain u32 κ₂ (ρ₂ ∷ []) q₂ (log .name) (log .ptr .0) (log .ptr .1) ε (t .logged))))) (lends-again-at u32 κ₂ (ρ₂ ∷ []) q₂ (log .name) (log .ptr .0) (log .ptr .1) 𝓤 H A W (named 1) (named 2) (t .logged) (length (log .now)) (sym (long t))) $
+                await ! tt $ pick ! (λ ε₂. split ! $
+                move ! (50 ∷ []) $ use1 W (‵ Bytes ⊛ ‵ Bytes) (shr-slice-copy 𝓤 H A W (named 0) κ₀ u8 .twice bytes (slice bytes ∷ [])) $ split ! $ forget ! 35 refl $
+                -- the step
+                nothing ! $ move ! (12 ∷ 0 ∷ []) $ fjoin ! $ move ! (3 ∷ 0 ∷ []) $ fjoin ! $ move ! (5 ∷ 0 ∷ []) $ fjoin ! $ move ! (2 ∷ 0 ∷ []) $ fjoin ! $
+                move ! (6 ∷ 0 ∷ []) $ fjoin ! $ nothing ! $ move ! (4 ∷ 0 ∷ []) $ join ! $ move ! (5 ∷ 0 ∷ []) $ join ! $ move ! (47 ∷ 0 ∷ []) $ join ! $
+                move ! (6 ∷ 0 ∷ []) $ join ! $ join ! $
+                calls-from-last ! fm ((‵ (flft (ν ∷ []) fullShare) ⊛ ‵ (flft κ₀ q₀) ⊛ ‵ (flft (ρ₁ ∷ []) fullShare) ⊛ ‵ (flft (ρ₂ ∷ []) fullShare) ⊛ ‵ ftrue) ⊛ ‵ (owns (MutRef (named 0) (ν ∷ []) (D .row) ∷ ShrSlice (named 1) κ₀ u8 ∷ MutSlice (named 2) (ρ₁ ∷ []) u8 ∷ MutSlice (named 3) (ρ₂ ∷ []) u32 ∷ R .row ∷ []) (record { ptr = (l₇, 0); name = δ; now = t .held }, (bytes, (lent-at buffer ε₁ (t .stored), (lent-at log ε₂ (t .logged), (r, tt))))) (vptr l₇ 0 ∷ [], (slice bytes ∷ [], (slice buffer ∷ [], (slice log ∷ [], (R .val r ∷ [], tt))))))) (vptr l₇ 0 ∷ slice bytes ∷ slice buffer ∷ slice log ∷ R .val r ∷ []) (Q-step ν ρ₁ ρ₂ l₇ δ ε₁ ε₂ (t .held) (t .stored) (t .logged) r) (step-meets ν ρ₁ ρ₂ l₇ δ ε₁ ε₂ (t .held) (t .stored) (t .logged) r) (and-then ! (load ! (from ! (stop !)) (look ! 18 refl)) (and-then ! (load ! (from ! (stop !)) (look ! 37 refl)) (and-then ! (load ! (from ! (stop !)) (look ! 14 refl)) (and-then ! (load ! (from ! (stop !)) (look ! 10 refl)) (and-then ! (load ! (from ! (stop !)) (look ! 26 refl)) (no-more !)))))) (λ w₂.
+                use1 W (later (some (λ (a : N .row .Denot). some (λ (z : D .row .Denot × (List ℕ × List ℕ)). ((‵ (flft (ν ∷ []) fullShare) ⊛ (‵ (flft κ₀ q₀) ⊛ (‵ (flft (ρ₁ ∷ []) fullShare) ⊛ ‵ (flft (ρ₂ ∷ []) fullShare)))) ⊛ (‵ (fres δ (D .row .coded .code (z .0))) ⊛ (‵ (finally u8 ε₁ (z .1 .0)) ⊛ (‵ (finally u32 ε₂ (z .1 .1)) ⊛ ‵ (N .row .own a (w₂ ∷ [])))))) ⊛ raw (fact 𝓤 (Stepped (t .held) (t .stored) (t .logged) r (z .0) a (z .1 .0) (z .1 .1))))))) (step-gives ν ρ₁ ρ₂ l₇ δ ε₁ ε₂ (t .held) (t .stored) (t .logged) r w₂) $
+                await ! tt $ pick ! (λ a. pick ! (λ z. split ! $ move ! (1 ∷ []) $
+                heard ! (Stepped (t .held) (t .stored) (t .logged) r (z .0) a (z .1 .0) (z .1 .1)) (λ s. split ! $ split ! $ move ! (1 ∷ []) $ split ! $ move ! (1 ∷ []) $
+                split ! $ move ! (4 ∷ []) $ split ! $ move ! (1 ∷ []) $ split ! $ move ! (1 ∷ []) $ split ! $
+                -- they come back
+                move ! (7 ∷ []) $ lft-end ! tt $ move ! (0 ∷ 11 ∷ 4 ∷ []) $
+                use3 W (later (‵ (fat fullShare τD l₇ 0 (valD (D .get (z .0)))) ⊛ ‵ (D .row .own (z .0) (valD (D .get (z .0)) ∷ [])))) (local-back 𝓤 H A W (D .row) τD (λ y. valD (D .get y)) (D .tells) l₇ (D .shut fullShare l₇ 0) (D .opened fullShare l₇ 0) (ν ∷ []) δ (z .0)) $
+                await ! tt $ split ! $
+                move ! (5 ∷ []) $ lft-end ! tt $ move ! (0 ∷ 10 ∷ 5 ∷ []) $
+                use3 W (later (‵ (MutSlice (named 1) κ₁ u8 .own (lent-at buffer (buffer .name) (z .1 .0)) (slice buffer ∷ [])) ⊛ ‵ (flft κ₁ q₁))) (comes-back-at u8 κ₁ (ρ₁ ∷ []) q₁ (buffer .name) (buffer .ptr .0) (buffer .ptr .1) 𝓤 H A W (named 1) (named 2) (t .stored) (length (buffer .now)) (sym (wide t)) ε₁ (z .1 .0) (subst (Room u8) (sym (wide t)) buffer-room) (kept-buffer t r (z .0) a (z .1 .0) (z .1 .1) s)) $
+                await ! tt $ split ! $
+                move ! (6 ∷ []) $ lft-end ! tt $ move ! (0 ∷ 9 ∷ 5 ∷ []) $
+                use3 W (later (‵ (MutSlice (named 1) κ₂ u32 .own (lent-at log (log .name) (z .1 .1)) (slice log ∷ [])) ⊛ ‵ (flft κ₂ q₂))) (comes-back-at u32 κ₂ (ρ₂ ∷ []) q₂ (log .name) (log .ptr .0) (log .ptr .1) 𝓤 H A W (named 1) (named 2) (t .logged) (length (log .now)) (sym (long t)) ε₂ (z .1 .1) (subst (Room u32) (sym (long t)) log-room) (kept-log t r (z .0) a (z .1 .0) (z .1 .1) s)) $
+                await ! tt $ split ! $
+                move ! (11 ∷ []) $ drop ! $ move ! (6 ∷ []) $
+                peeks ! (N .row) (Is (N .row)) (shows 𝓤 H A (N .row)) a (w₂ ∷ []) (λ is-a. land-last ! (from ! (stop !)) (init ! 31 refl (N .typed a _ is-a)) $
+                rewrite ! 31 (λ (x : Val). ‵ (fat fullShare (N .ty) l₈ 0 x)) (ap only (N .tells a _ is-a)) refl $
+                rewrite ! 0 (λ (x : Val). ‵ (N .row .own a (x ∷ []))) (ap only (N .tells a _ is-a)) refl $ forget ! 13 refl $ forget ! 15 refl $ forget ! 17 refl $
+                forget ! 19 refl $ forget ! 21 refl $ forget ! 23 refl $ forget ! 25 refl $ forget ! 29 refl $
+                move ! (11 ∷ 12 ∷ 13 ∷ 14 ∷ 15 ∷ 16 ∷ 17 ∷ 18 ∷ 19 ∷ 20 ∷ 21 ∷ 22 ∷ 23 ∷ 24 ∷ 25 ∷ 26 ∷ 27 ∷ 28 ∷ 29 ∷ 30 ∷ 31 ∷ 32 ∷ 5 ∷ 33 ∷ 34 ∷ 35 ∷ 36 ∷ 37 ∷ 38 ∷ 39 ∷ 40 ∷ 41 ∷ 42 ∷ 43 ∷ 44 ∷ 45 ∷ 46 ∷ 47 ∷ 6 ∷ 0 ∷ 3 ∷ 1 ∷ 8 ∷ 10 ∷ 7 ∷ 4 ∷ 2 ∷ 9 ∷ []) $
+                again ! Nearer At t (record { held = z .0; answer = a; stored = z .1 .0; logged = z .1 .1; good = goes-on t r (z .0) a (z .1 .0) (z .1 .1) (sym f ∙ holds y held) e s }) (nearer t r (z .0) a (z .1 .0) (z .1 .1) (sym f ∙ holds y held) e s))))))))))))))))))
+                (λ over. jumps ! $ exec ! C Λ En after-loop (atRet En Post) $ move ! (39 ∷ []) $
+                peeks ! (D .row) (Is (D .row)) (shows 𝓤 H A (D .row)) (t .held) (valD (D .get (t .held)) ∷ []) (λ g. assigns ! (of-opd ! (load ! (from ! (stop !)) (look ! 24 refl))) (from ! (stop !)) (init ! 2 refl (D .typed (t .held) _ g)) $
+                assigns ! (agg ! (and-then ! (load ! (from ! (stop !)) (look ! 2 refl)) (and-then ! (load ! (from ! (stop !)) (look ! 22 refl)) (no-more !)))) (from ! (stop !)) (init ! 38 refl (B .typed (B .make (t .held) (t .answer)) _ (B .owes (t .held) (t .answer) g is))) $
+                returns ! (look ! 38 refl) $ forget ! 2 refl $ forget ! 16 refl $ forget ! 22 refl $ forget ! 24 refl $ forget ! 26 refl $ forget ! 28 refl $
+                forget ! 30 refl $ forget ! 32 refl $ forget ! 34 refl $ forget ! 36 refl $ forget ! 38 refl $
+                move ! (38 ∷ 39 ∷ []) $ free1 ! $ move ! (36 ∷ 37 ∷ []) $ free1 ! $ move ! (34 ∷ 35 ∷ []) $ free1 ! $ move ! (32 ∷ 33 ∷ []) $ free1 ! $
+                move ! (30 ∷ 31 ∷ []) $ free1 ! $ move ! (28 ∷ 29 ∷ []) $ free1 ! $ move ! (26 ∷ 27 ∷ []) $ free1 ! $ move ! (24 ∷ 25 ∷ []) $ free1 ! $
+                move ! (22 ∷ 23 ∷ []) $ free1 ! $ move ! (20 ∷ 21 ∷ []) $ free1 ! $ move ! (18 ∷ 19 ∷ []) $ free1 ! $ move ! (16 ∷ 17 ∷ []) $ free1 ! $
+                move ! (14 ∷ 15 ∷ []) $ free1 ! $ move ! (12 ∷ 13 ∷ []) $ free1 ! $ move ! (10 ∷ 11 ∷ []) $ free1 ! $ move ! (8 ∷ 9 ∷ []) $ free1 ! $
+                move ! (6 ∷ 7 ∷ []) $ free1 ! $ move ! (4 ∷ 5 ∷ []) $ free1 ! $ move ! (2 ∷ 3 ∷ []) $ free1 ! $ free0 ! $
+                keep ! (2 ∷ 3 ∷ 6 ∷ 7 ∷ 8 ∷ 9 ∷ []) $ by ! (exits (t .held) (t .answer) (t .stored) (t .logged) g is (t .good) (sym f ∙ fails y over)))))))))
 
-          pub walk : ent 𝓤 (sep 𝓤 (sep 𝓤 (A .lft κ₀ q₀) (sep 𝓤 (A .lft κ₁ q₁) (sep 𝓤 (A .lft κ₂ q₂) (sep 𝓤 (A .lft κ₃ q₃) (sem 𝓤 H A ftrue))))) (sem 𝓤 H A (owns (D .row ∷ P .row ∷ ShrSlice (named 0) κ₀ u8 ∷ MutSlice (named 1) κ₁ u8 ∷ MutSlice (named 2) κ₂ u32 ∷ ShrSlice (named 3) κ₃ u32 ∷ []) (driver, (op, (bytes, (buffer, (log, (replies, tt)))))) (valD (D .get driver) ∷ [], (P .val op ∷ [], (sliceVal (bytes .ptr) (length (bytes .now)) ∷ [], (sliceVal (buffer .ptr) (length (buffer .now)) ∷ [], (sliceVal (log .ptr) (length (log .now)) ∷ [], (sliceVal (replies .ptr) (length (replies .now)) ∷ [], tt)))))))))
-              (WpFn 𝓤 H C Λ code (valD (D .get driver) ∷ P .val op ∷ sliceVal (bytes .ptr) (length (bytes .now)) ∷ sliceVal (buffer .ptr) (length (buffer .now)) ∷ sliceVal (log .ptr) (length (log .now)) ∷ sliceVal (replies .ptr) (length (replies .now)) ∷ []) Post)
+          pub walk : ent 𝓤 (sep 𝓤 (sep 𝓤 (A .lft κ₀ q₀) (sep 𝓤 (A .lft κ₁ q₁) (sep 𝓤 (A .lft κ₂ q₂) (sep 𝓤 (A .lft κ₃ q₃) (sem 𝓤 H A ftrue))))) (sem 𝓤 H A (owns (D .row ∷ P .row ∷ ShrSlice (named 0) κ₀ u8 ∷ MutSlice (named 1) κ₁ u8 ∷ MutSlice (named 2) κ₂ u32 ∷ ShrSlice (named 3) κ₃ u32 ∷ []) (driver, (op, (bytes, (buffer, (log, (replies, tt)))))) (valD (D .get driver) ∷ [], (P .val op ∷ [], (slice bytes ∷ [], (slice buffer ∷ [], (slice log ∷ [], (slice replies ∷ [], tt)))))))))
+              (WpFn 𝓤 H C Λ code (valD (D .get driver) ∷ P .val op ∷ slice bytes ∷ slice buffer ∷ slice log ∷ slice replies ∷ []) Post)
           walk =
-              qed W ((‵ (flft κ₀ q₀) ⊛ ‵ (flft κ₁ q₁) ⊛ ‵ (flft κ₂ q₂) ⊛ ‵ (flft κ₃ q₃) ⊛ ‵ ftrue) ∷ ‵ (owns (D .row ∷ P .row ∷ ShrSlice (named 0) κ₀ u8 ∷ MutSlice (named 1) κ₁ u8 ∷ MutSlice (named 2) κ₂ u32 ∷ ShrSlice (named 3) κ₃ u32 ∷ []) (driver, (op, (bytes, (buffer, (log, (replies, tt)))))) (valD (D .get driver) ∷ [], (P .val op ∷ [], (sliceVal (bytes .ptr) (length (bytes .now)) ∷ [], (sliceVal (buffer .ptr) (length (buffer .now)) ∷ [], (sliceVal (log .ptr) (length (log .now)) ∷ [], (sliceVal (replies .ptr) (length (replies .now)) ∷ [], tt))))))) ∷ []) ∵
-              enter ! C Λ code (valD (D .get driver) ∷ P .val op ∷ sliceVal (bytes .ptr) (length (bytes .now)) ∷ sliceVal (buffer .ptr) (length (buffer .now)) ∷ sliceVal (log .ptr) (length (log .now)) ∷ sliceVal (replies .ptr) (length (replies .now)) ∷ []) _ $
-              alloc1 ! (λ l₀. alloc1 ! (λ l₁. alloc1 ! (λ l₂. alloc1 ! (λ l₃. alloc1 ! (λ l₄. alloc1 ! (λ l₅. alloc1 ! (λ l₆. alloc1 ! (λ l₇. alloc1 ! (λ l₈. alloc1 ! (λ l₉. alloc1 ! (λ l₁₀. alloc1 ! (λ l₁₁. alloc1 ! (λ l₁₂. alloc1 ! (λ l₁₃. alloc1 ! (λ l₁₄. alloc1 ! (λ l₁₅. alloc1 ! (λ l₁₆. alloc1 ! (λ l₁₇. alloc1 ! (λ l₁₈. alloc0 ! $ params1 ! $ pass1 ! (init ! 34 refl (D .typed driver _ is-driver)) $ pass1 ! (init ! 32 refl (P .typed op _ is-op)) $ pass1 ! (init ! 30 refl (tt, (tt, (record { fits = bytes-room .0 }, tt)))) $ pass1 ! (init ! 28 refl (tt, (tt, (record { fits = buffer-room .0 }, tt)))) $ pass1 ! (init ! 26 refl (tt, (tt, (record { fits = log-room .0 }, tt)))) $ pass1 ! (init ! 24 refl (tt, (tt, (record { fits = replies-room .0 }, tt)))) $ pass0 ! $
-              move ! (38 ∷ []) $ split ! $ move ! (1 ∷ []) $ split ! $ move ! (1 ∷ []) $ split ! $ move ! (1 ∷ []) $ split ! $ move ! (1 ∷ []) $ drop ! $ move ! (42 ∷ []) $ fsplit ! $ move ! (1 ∷ []) $ fsplit ! $ move ! (1 ∷ []) $ fsplit ! $ move ! (1 ∷ []) $ fsplit ! $ move ! (1 ∷ []) $ fsplit ! $ move ! (1 ∷ []) $ fsplit ! $ move ! (1 ∷ []) $ drop ! $
+              qed W ((‵ (flft κ₀ q₀) ⊛ ‵ (flft κ₁ q₁) ⊛ ‵ (flft κ₂ q₂) ⊛ ‵ (flft κ₃ q₃) ⊛ ‵ ftrue) ∷ ‵ (owns (D .row ∷ P .row ∷ ShrSlice (named 0) κ₀ u8 ∷ MutSlice (named 1) κ₁ u8 ∷ MutSlice (named 2) κ₂ u32 ∷ ShrSlice (named 3) κ₃ u32 ∷ []) (driver, (op, (bytes, (buffer, (log, (replies, tt)))))) (valD (D .get driver) ∷ [], (P .val op ∷ [], (slice bytes ∷ [], (slice buffer ∷ [], (slice log ∷ [], (slice replies ∷ [], tt))))))) ∷ []) ∵
+              enter ! C Λ code (valD (D .get driver) ∷ P .val op ∷ slice bytes ∷ slice buffer ∷ slice log ∷ slice replies ∷ []) _ $
+              alloc1 ! (λ l₀. alloc1 ! (λ l₁. alloc1 ! (λ l₂. alloc1 ! (λ l₃. alloc1 ! (λ l₄. alloc1 ! (λ l₅. alloc1 ! (λ l₆. alloc1 ! (λ l₇. alloc1 ! (λ l₈. alloc1 ! (λ l₉. alloc1 ! (λ l₁₀. alloc1 ! (λ l₁₁. alloc1 ! (λ l₁₂. alloc1 ! (λ l₁₃. alloc1 ! (λ l₁₄. alloc1 ! (λ l₁₅. alloc1 ! (λ l₁₆. alloc1 ! (λ l₁₇. alloc1 ! (λ l₁₈. alloc0 ! $
+              params1 ! $ pass1 ! (init ! 34 refl (D .typed driver _ is-driver)) $ pass1 ! (init ! 32 refl (P .typed op _ is-op)) $
+              pass1 ! (init ! 30 refl (tt, (tt, (record { fits = bytes-room .0 }, tt)))) $ pass1 ! (init ! 28 refl (tt, (tt, (record { fits = buffer-room .0 }, tt)))) $
+              pass1 ! (init ! 26 refl (tt, (tt, (record { fits = log-room .0 }, tt)))) $ pass1 ! (init ! 24 refl (tt, (tt, (record { fits = replies-room .0 }, tt)))) $
+              pass0 ! $
+              move ! (38 ∷ []) $ split ! $ move ! (1 ∷ []) $ split ! $ move ! (1 ∷ []) $ split ! $ move ! (1 ∷ []) $ split ! $ move ! (1 ∷ []) $ drop ! $
+              move ! (42 ∷ []) $ fsplit ! $ move ! (1 ∷ []) $ fsplit ! $ move ! (1 ∷ []) $ fsplit ! $ move ! (1 ∷ []) $ fsplit ! $ move ! (1 ∷ []) $ fsplit ! $
+              move ! (1 ∷ []) $ fsplit ! $ move ! (1 ∷ []) $ drop ! $
               -- the call begins
-              assigns ! (of-opd ! (load ! (from ! (stop !)) (look ! 44 refl))) (from ! (stop !)) (init ! 32 refl (D .typed driver _ is-driver)) $ assigns ! (addr ! (from ! (stop !))) (from ! (stop !)) (init ! 26 refl (tt, tt)) $ lft-new ! tt (λ ν. move ! (33 ∷ 6 ∷ []) $ use2 W (later (some (λ (δ : GName). ‵ (MutRef (named 0) (ν ∷ []) (D .row) .own (record { ptr = (l₇, 0); name = δ; now = driver }) (vptr l₇ 0 ∷ [])) ⊛ ‵ (flent (ν ∷ []) (Body (mem (D .row)) l₇ 0 δ))))) (lends-local 𝓤 H A W (D .row) τD (λ y. valD (D .get y)) (D .tells) l₇ (D .shut fullShare l₇ 0) (D .opened fullShare l₇ 0) (named 0) (ν ∷ []) driver (valD (D .get driver))) $ await ! tt $ pick ! (λ δ. split ! $
-              nothing ! $ move ! (8 ∷ 0 ∷ []) $ fjoin ! $ move ! (1 ∷ 0 ∷ []) $ fjoin ! $ nothing ! $ move ! (3 ∷ 0 ∷ []) $ join ! $ join ! $ calls-from ! fm ((‵ (flft (ν ∷ []) fullShare) ⊛ ‵ ftrue) ⊛ ‵ (owns (MutRef (named 0) (ν ∷ []) (D .row) ∷ P .row ∷ []) (record { ptr = (l₇, 0); name = δ; now = driver }, (op, tt)) (vptr l₇ 0 ∷ [], (P .val op ∷ [], tt)))) (vptr l₇ 0 ∷ P .val op ∷ []) (Q₁ ν l₇ δ) (met₁ ν l₇ δ) (and-then ! (load ! (from ! (stop !)) (look ! 26 refl)) (and-then ! (load ! (from ! (stop !)) (look ! 41 refl)) (no-more !))) (λ w.
-              use1 W (later (some (λ (r : N .row .Denot). some (λ (d : D .row .Denot). (‵ (flft (ν ∷ []) fullShare) ⊛ (‵ (fres δ (D .row .coded .code d)) ⊛ ‵ (N .row .own r (w ∷ [])))) ⊛ raw (fact 𝓤 (Started d r)))))) (back₁ ν l₇ δ w) $ await ! tt $ pick ! (λ r. pick ! (λ d. split ! $ move ! (1 ∷ []) $ heard ! (Started d r) (λ e. split ! $ move ! (1 ∷ []) $ split ! $ move ! (1 ∷ []) $ peeks ! (N .row) (Is (N .row)) (shows 𝓤 H A (N .row)) r (w ∷ []) (λ is. land ! (from ! (stop !)) (init ! 32 refl (N .typed r _ is)) $
-              rewrite ! 32 (λ (u : Val). ‵ (fat fullShare (N .ty) l₈ 0 u)) (ap only (N .tells r _ is)) refl $ rewrite ! 0 (λ (u : Val). ‵ (N .row .own r (u ∷ []))) (ap only (N .tells r _ is)) refl $ move ! (2 ∷ []) $ lft-end ! tt $ move ! (0 ∷ 3 ∷ 2 ∷ []) $ use3 W (later (‵ (fat fullShare τD l₇ 0 (valD (D .get d))) ⊛ ‵ (D .row .own d (valD (D .get d) ∷ [])))) (local-back 𝓤 H A W (D .row) τD (λ y. valD (D .get y)) (D .tells) l₇ (D .shut fullShare l₇ 0) (D .opened fullShare l₇ 0) (ν ∷ []) δ d) $ await ! tt $ split ! $ forget ! 27 refl $
-              move ! (11 ∷ 12 ∷ 13 ∷ 14 ∷ 15 ∷ 16 ∷ 17 ∷ 18 ∷ 19 ∷ 20 ∷ 21 ∷ 22 ∷ 23 ∷ 24 ∷ 25 ∷ 26 ∷ 27 ∷ 28 ∷ 29 ∷ 30 ∷ 31 ∷ 32 ∷ 0 ∷ 33 ∷ 34 ∷ 35 ∷ 36 ∷ 37 ∷ 38 ∷ 39 ∷ 40 ∷ 41 ∷ 42 ∷ 43 ∷ 44 ∷ 45 ∷ 46 ∷ 47 ∷ 1 ∷ 2 ∷ 5 ∷ 4 ∷ 6 ∷ 3 ∷ 10 ∷ 9 ∷ 8 ∷ 7 ∷ []) $ first ! $ blocks ! $ loops ! 𝓣 Nearer Nearer-wf (At l₀ l₁ l₂ l₃ l₄ l₅ l₆ l₇ l₈ l₉ l₁₀ l₁₁ l₁₂ l₁₃ l₁₄ l₁₅ l₁₆ l₁₇ l₁₈) (turns l₀ l₁ l₂ l₃ l₄ l₅ l₆ l₇ l₈ l₉ l₁₀ l₁₁ l₁₂ l₁₃ l₁₄ l₁₅ l₁₆ l₁₇ l₁₈) (record { held = d; answer = r; stored = buffer .now; logged = log .now; good = begins d r e })))))))))))))))))))))))))))
+              assigns ! (of-opd ! (load ! (from ! (stop !)) (look ! 44 refl))) (from ! (stop !)) (init ! 32 refl (D .typed driver _ is-driver)) $
+              assigns ! (addr ! (from ! (stop !))) (from ! (stop !)) (init ! 26 refl (tt, tt)) $ lft-new ! tt (λ ν. move ! (33 ∷ 6 ∷ []) $
+              use2 W (later (some (λ (δ : GName). ‵ (MutRef (named 0) (ν ∷ []) (D .row) .own (record { ptr = (l₇, 0); name = δ; now = driver }) (vptr l₇ 0 ∷ [])) ⊛ ‵ (flent (ν ∷ []) (Body (mem (D .row)) l₇ 0 δ))))) (lends-local 𝓤 H A W (D .row) τD (λ y. valD (D .get y)) (D .tells) l₇ (D .shut fullShare l₇ 0) (D .opened fullShare l₇ 0) (named 0) (ν ∷ []) driver (valD (D .get driver))) $
+              await ! tt $ pick ! (λ δ. split ! $
+              nothing ! $ move ! (8 ∷ 0 ∷ []) $ fjoin ! $ move ! (1 ∷ 0 ∷ []) $ fjoin ! $ nothing ! $ move ! (3 ∷ 0 ∷ []) $ join ! $ join ! $
+              calls-from ! fm ((‵ (flft (ν ∷ []) fullShare) ⊛ ‵ ftrue) ⊛ ‵ (owns (MutRef (named 0) (ν ∷ []) (D .row) ∷ P .row ∷ []) (record { ptr = (l₇, 0); name = δ; now = driver }, (op, tt)) (vptr l₇ 0 ∷ [], (P .val op ∷ [], tt)))) (vptr l₇ 0 ∷ P .val op ∷ []) (Q-start ν l₇ δ) (start-meets ν l₇ δ) (and-then ! (load ! (from ! (stop !)) (look ! 26 refl)) (and-then ! (load ! (from ! (stop !)) (look ! 41 refl)) (no-more !))) (λ w.
+              use1 W (later (some (λ (r : N .row .Denot). some (λ (d : D .row .Denot). (‵ (flft (ν ∷ []) fullShare) ⊛ (‵ (fres δ (D .row .coded .code d)) ⊛ ‵ (N .row .own r (w ∷ [])))) ⊛ raw (fact 𝓤 (Started d r)))))) (start-gives ν l₇ δ w) $
+              await ! tt $ pick ! (λ r. pick ! (λ d. split ! $ move ! (1 ∷ []) $ heard ! (Started d r) (λ e. split ! $ move ! (1 ∷ []) $ split ! $ move ! (1 ∷ []) $
+              peeks ! (N .row) (Is (N .row)) (shows 𝓤 H A (N .row)) r (w ∷ []) (λ is. land ! (from ! (stop !)) (init ! 32 refl (N .typed r _ is)) $
+              rewrite ! 32 (λ (u : Val). ‵ (fat fullShare (N .ty) l₈ 0 u)) (ap only (N .tells r _ is)) refl $
+              rewrite ! 0 (λ (u : Val). ‵ (N .row .own r (u ∷ []))) (ap only (N .tells r _ is)) refl $ move ! (2 ∷ []) $ lft-end ! tt $ move ! (0 ∷ 3 ∷ 2 ∷ []) $
+              use3 W (later (‵ (fat fullShare τD l₇ 0 (valD (D .get d))) ⊛ ‵ (D .row .own d (valD (D .get d) ∷ [])))) (local-back 𝓤 H A W (D .row) τD (λ y. valD (D .get y)) (D .tells) l₇ (D .shut fullShare l₇ 0) (D .opened fullShare l₇ 0) (ν ∷ []) δ d) $
+              await ! tt $ split ! $ forget ! 27 refl $
+              move ! (11 ∷ 12 ∷ 13 ∷ 14 ∷ 15 ∷ 16 ∷ 17 ∷ 18 ∷ 19 ∷ 20 ∷ 21 ∷ 22 ∷ 23 ∷ 24 ∷ 25 ∷ 26 ∷ 27 ∷ 28 ∷ 29 ∷ 30 ∷ 31 ∷ 32 ∷ 0 ∷ 33 ∷ 34 ∷ 35 ∷ 36 ∷ 37 ∷ 38 ∷ 39 ∷ 40 ∷ 41 ∷ 42 ∷ 43 ∷ 44 ∷ 45 ∷ 46 ∷ 47 ∷ 1 ∷ 2 ∷ 5 ∷ 4 ∷ 6 ∷ 3 ∷ 10 ∷ 9 ∷ 8 ∷ 7 ∷ []) $
+              first ! $ blocks ! $
+              loops ! 𝓣 Nearer Nearer-wf (At l₀ l₁ l₂ l₃ l₄ l₅ l₆ l₇ l₈ l₉ l₁₀ l₁₁ l₁₂ l₁₃ l₁₄ l₁₅ l₁₆ l₁₇ l₁₈) (turns l₀ l₁ l₂ l₃ l₄ l₅ l₆ l₇ l₈ l₉ l₁₀ l₁₁ l₁₂ l₁₃ l₁₄ l₁₅ l₁₆ l₁₇ l₁₈) (record { held = d; answer = r; stored = buffer .now; logged = log .now; good = begins d r e })))))))))))))))))))))))))))

@@ -10,7 +10,7 @@ use base.Fml.{Lft, Share, GName, ftrue, fat, flft}
 use prog.Wp.{Heap, Calls, Loops, WpFn}
 use ghost.Atoms.{Atoms, sem}
 use contract.Monad.{fact}
-use types.Kit.{Given, ‵, raw, some, later, _⊛_, ⋆, _$_, _∵_, !, qed, by, move, keep, drop, use1, split, join, pick, fsplit, fsplit3, fjoin, await}
+use types.Kit.{Given, Item, ‵, raw, some, later, _⊛_, ⋆, _$_, _∵_, !, qed, by, move, keep, drop, use1, split, join, pick, fsplit, fsplit3, fjoin, await}
 use types.Run.{look, init, forget, stop, hop, fld, from, load, of-opd, and-then, no-more, assigns, land, returns, enter, alloc1, alloc0, params1, pass1, pass0, free1, free0}
 use types.Part.{whole, sub, look-in}
 use sound.WpLaws.{FmC}
@@ -34,7 +34,7 @@ module _ {M : Type 1} {𝓤 : URA M} {H : Heap 𝓤} {A : Atoms 𝓤} (S N : Kno
     outlives = [];
     params = 1;
     locals = local (N .ty) valueLocal ∷ local (tyRef (named 0) imm (tyNamed (D .name, []))) valueLocal ∷ local (S .ty) valueLocal ∷ [];
-    body = seq (assign (place 2 []) (rvOpd (copy (place 1 (deref τD ∷ field 0 ∷ []))))) (seq (call f (copy (place 2 []) ∷ []) (place 0 [])) (return));
+    body = seq (assign (place 2 []) (rvOpd (copy (place 1 (deref τD ∷ field 0 ∷ []))))) (seq (call f (copy (place 2 []) ∷ []) (place 0 [])) return);
   }
 
   module _ (W : Given 𝓤 H A) (f : Name) (κ₀ : Lft) (q₀ : Share) (b o : ℕ) (γ : GName) (h : D .row .Denot) where
@@ -47,6 +47,9 @@ module _ {M : Type 1} {𝓤 : URA M} {H : Heap 𝓤} {A : Atoms 𝓤} (S N : Kno
     -- what the method hands to its callee, and what it is called with
     abbrev pub Handed : SProp 𝓤
     Handed = sep 𝓤 (sem 𝓤 H A ftrue) (sem 𝓤 H A (owns (S .row ∷ []) (x, tt) (S .val x ∷ [], tt)))
+
+    abbrev handed : Item 𝓤
+    handed = (‵ ftrue) ⊛ ‵ (owns (S .row ∷ []) (x, tt) (S .val x ∷ [], tt))
 
     abbrev pub called-with : List Val
     called-with = S .val x ∷ []
@@ -68,13 +71,18 @@ module _ {M : Type 1} {𝓤 : URA M} {H : Heap 𝓤} {A : Atoms 𝓤} (S N : Kno
           qed W ((‵ (flft κ₀ q₀) ⊛ ‵ ftrue) ∷ ‵ (owns (ShrRef (named 0) κ₀ (D .row) ∷ []) (record { ptr = (b, o); name = γ; now = h }, tt) (vptr b o ∷ [], tt)) ∷ []) ∵ enter ! C Λ (method f) (vptr b o ∷ []) _ $
           alloc1 ! (λ l₀. alloc1 ! (λ l₁. alloc1 ! (λ l₂. alloc0 ! $ params1 ! $ pass1 ! (init ! 2 refl (tt, tt)) $ pass0 ! $
           -- the borrow is looked into, and shut
-          move ! (7 ∷ []) $ fsplit ! $ fsplit3 ! $ drop ! $ move ! (9 ∷ []) $ split ! $ move ! (3 ∷ 0 ∷ []) $ looks ! tt (D .row) (Is (D .row)) (shows 𝓤 H A (D .row)) (λ y. valD (D .get y) ∷ []) (D .tells) (D .copy) h b o (λ q′ vs. spelt ! (D .row) (Is (D .row)) (shows 𝓤 H A (D .row)) (λ y. valD (D .get y) ∷ []) (D .tells) q′ h vs b o $
+          move ! (7 ∷ []) $ fsplit ! $ fsplit3 ! $ drop ! $ move ! (9 ∷ []) $ split ! $ move ! (3 ∷ 0 ∷ []) $
+          looks ! tt (D .row) (Is (D .row)) (shows 𝓤 H A (D .row)) (λ y. valD (D .get y) ∷ []) (D .tells) (D .copy) h b o (λ q′ vs. spelt ! (D .row) (Is (D .row)) (shows 𝓤 H A (D .row)) (λ y. valD (D .get y) ∷ []) (D .tells) q′ h vs b o $
           use1 W (‵ (fat q′ τD b o (valD x))) (D .opened q′ b o (valD x)) $ move ! (1 ∷ []) $ peeks ! (D .row) (Is (D .row)) (shows 𝓤 H A (D .row)) h (valD x ∷ []) (λ g.
           -- [own; cell; obor; shr; others; res; rest; _2; ~2; _1; ~1; _0; ~0]
-          assigns ! (of-opd ! (load ! (from ! (hop ! (look ! 9 refl) (fld ! refl (stop !)))) (look-in ! 1 (sub ! 0 refl (whole !))))) (from ! (stop !)) (init ! 7 refl (S .typed x _ (D .owed h _ g))) $ move ! (1 ∷ []) $ use1 W (‵ (cellAt q′ (D .row .mir) (valD x ∷ []) b o)) (D .shut q′ b o (valD x)) $ shuts ! tt (D .row) q′ h (valD x ∷ []) b o $
+          assigns ! (of-opd ! (load ! (from ! (hop ! (look ! 9 refl) (fld ! refl (stop !)))) (look-in ! 1 (sub ! 0 refl (whole !))))) (from ! (stop !)) (init ! 7 refl (S .typed x _ (D .owed h _ g))) $
+          move ! (1 ∷ []) $ use1 W (‵ (cellAt q′ (D .row .mir) (valD x ∷ []) b o)) (D .shut q′ b o (valD x)) $ shuts ! tt (D .row) q′ h (valD x ∷ []) b o $
           -- the call
-          owned ! (S .row) (Is (S .row)) (S .makes) x _ (D .owed h _ g) $ move ! (0 ∷ 5 ∷ []) $ fjoin ! $ move ! (3 ∷ 0 ∷ []) $ join ! $ calls-from ! fm ((‵ ftrue) ⊛ ‵ (owns (S .row ∷ []) (x, tt) (S .val x ∷ [], tt))) (S .val x ∷ []) Q met (and-then ! (load ! (from ! (stop !)) (look ! 4 refl)) (no-more !)) (λ w.
-          use1 W (later (some (λ (r : N .row .Denot). ((‵ ftrue) ⊛ ‵ (N .row .own r (w ∷ []))) ⊛ raw (Ens r)))) (answers w) $ await ! tt $ pick ! (λ r. split ! $ move ! (1 ∷ []) $ use1 W (raw (fact 𝓤 (Said r))) (hears r) $ heard ! (Said r) (λ e. split ! $ move ! (1 ∷ []) $ peeks ! (N .row) (Is (N .row)) (shows 𝓤 H A (N .row)) r (w ∷ []) (λ is. land ! (from ! (stop !)) (init ! 9 refl (N .typed r _ is)) $
+          owned ! (S .row) (Is (S .row)) (S .makes) x _ (D .owed h _ g) $ move ! (0 ∷ 5 ∷ []) $ fjoin ! $ move ! (3 ∷ 0 ∷ []) $ join ! $
+          calls-from ! fm handed called-with Q met (and-then ! (load ! (from ! (stop !)) (look ! 4 refl)) (no-more !)) (λ w.
+          use1 W (later (some (λ (r : N .row .Denot). ((‵ ftrue) ⊛ ‵ (N .row .own r (w ∷ []))) ⊛ raw (Ens r)))) (answers w) $ await ! tt $ pick ! (λ r. split ! $
+          move ! (1 ∷ []) $ use1 W (raw (fact 𝓤 (Said r))) (hears r) $ heard ! (Said r) (λ e. split ! $ move ! (1 ∷ []) $
+          peeks ! (N .row) (Is (N .row)) (shows 𝓤 H A (N .row)) r (w ∷ []) (λ is. land ! (from ! (stop !)) (init ! 9 refl (N .typed r _ is)) $
           -- [result; others; tok; shr; res; _2; ~2; _1; ~1; _0; ~0]
           returns ! (look ! 9 refl) $ forget ! 5 refl $ forget ! 7 refl $ forget ! 9 refl $
           move ! (9 ∷ 10 ∷ []) $ free1 ! $ move ! (7 ∷ 8 ∷ []) $ free1 ! $ move ! (5 ∷ 6 ∷ []) $ free1 ! $ free0 ! $

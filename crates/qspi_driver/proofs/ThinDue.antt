@@ -12,7 +12,7 @@ use base.Fml.{Lft, Share, GName, ftrue, fat, flft}
 use prog.Wp.{Heap, Calls, Loops, WpFn}
 use ghost.Atoms.{Atoms, sem}
 use contract.Monad.{fact}
-use types.Kit.{Given, ‵, raw, some, later, _⊛_, ⋆, _$_, _∵_, !, qed, by, move, keep, drop, use1, split, join, pick, fsplit, fsplit3, fjoin, await}
+use types.Kit.{Given, Item, ‵, raw, some, later, _⊛_, ⋆, _$_, _∵_, !, qed, by, move, keep, drop, use1, split, join, pick, fsplit, fsplit3, fjoin, await}
 use types.Run.{look, init, forget, stop, hop, fld, from, load, of-opd, and-then, no-more, assigns, land, returns, enter, alloc1, alloc0, params1, pass1, pass0, free1, free0}
 use types.Part.{whole, sub, look-in}
 use sound.WpLaws.{FmC}
@@ -21,11 +21,11 @@ use denote.Memory.{cellAt}
 use denote.Laws.{Is, shows}
 use denote.Builtin.{u8}
 use denote.Ref.{RefT, ShrRef}
-use denote.Slice.{sliceVal, ShrSlice, Room}
+use denote.Slice.{ShrSlice, Room}
 use denote.Steps.{looks, shuts, owned, peeks, heard}
 use denote.Struct.Steps.{spelt}
 use denote.Triple.Call.{calls-from}
-use Rattle.hand_walks.proofs.Known.{Known, Holder, sliceTy}
+use Rattle.hand_walks.proofs.Known.{Known, Holder, sliceTy, slice}
 
 module _ {M : Type 1} {𝓤 : URA M} {H : Heap 𝓤} {A : Atoms 𝓤} (S N : Known 𝓤 H A) (D : Holder 𝓤 H A S) where
   abbrev τD : Ty
@@ -38,7 +38,7 @@ module _ {M : Type 1} {𝓤 : URA M} {H : Heap 𝓤} {A : Atoms 𝓤} (S N : Kno
     outlives = [];
     params = 2;
     locals = local (N .ty) valueLocal ∷ local (tyRef (named 0) imm (tyNamed (D .name, []))) valueLocal ∷ local (sliceTy (named 1) imm w8) valueLocal ∷ local (S .ty) valueLocal ∷ [];
-    body = seq (assign (place 3 []) (rvOpd (copy (place 1 (deref τD ∷ field 0 ∷ []))))) (seq (call f (copy (place 3 []) ∷ copy (place 2 []) ∷ []) (place 0 [])) (return));
+    body = seq (assign (place 3 []) (rvOpd (copy (place 1 (deref τD ∷ field 0 ∷ []))))) (seq (call f (copy (place 3 []) ∷ copy (place 2 []) ∷ []) (place 0 [])) return);
   }
 
   module _ (W : Given 𝓤 H A) (f : Name) (κ₀ κ₁ : Lft) (q₀ q₁ : Share) (b o : ℕ) (γ : GName) (h : D .row .Denot) (bytes : RefT (List ℕ)) where
@@ -50,14 +50,17 @@ module _ {M : Type 1} {𝓤 : URA M} {H : Heap 𝓤} {A : Atoms 𝓤} (S N : Kno
 
     -- what the method hands to its callee, and what it is called with
     abbrev pub Handed : SProp 𝓤
-    Handed = sep 𝓤 (sep 𝓤 (A .lft κ₁ q₁) (sem 𝓤 H A ftrue)) (sem 𝓤 H A (owns (S .row ∷ ShrSlice (named 0) κ₁ u8 ∷ []) (x, (bytes, tt)) (S .val x ∷ [], (sliceVal (bytes .ptr) (length (bytes .now)) ∷ [], tt))))
+    Handed = sep 𝓤 (sep 𝓤 (A .lft κ₁ q₁) (sem 𝓤 H A ftrue)) (sem 𝓤 H A (owns (S .row ∷ ShrSlice (named 0) κ₁ u8 ∷ []) (x, (bytes, tt)) (S .val x ∷ [], (slice bytes ∷ [], tt))))
+
+    abbrev handed : Item 𝓤
+    handed = (‵ (flft κ₁ q₁) ⊛ ‵ ftrue) ⊛ ‵ (owns (S .row ∷ ShrSlice (named 0) κ₁ u8 ∷ []) (x, (bytes, tt)) (S .val x ∷ [], (slice bytes ∷ [], tt)))
 
     abbrev pub called-with : List Val
-    called-with = S .val x ∷ sliceVal (bytes .ptr) (length (bytes .now)) ∷ []
+    called-with = S .val x ∷ slice bytes ∷ []
 
     -- what it has on entry, and what it leaves
     abbrev pub Entered : SProp 𝓤
-    Entered = sep 𝓤 (sep 𝓤 (A .lft κ₀ q₀) (sep 𝓤 (A .lft κ₁ q₁) (sem 𝓤 H A ftrue))) (sem 𝓤 H A (owns (ShrRef (named 0) κ₀ (D .row) ∷ ShrSlice (named 1) κ₁ u8 ∷ []) (record { ptr = (b, o); name = γ; now = h }, (bytes, tt)) (vptr b o ∷ [], (sliceVal (bytes .ptr) (length (bytes .now)) ∷ [], tt))))
+    Entered = sep 𝓤 (sep 𝓤 (A .lft κ₀ q₀) (sep 𝓤 (A .lft κ₁ q₁) (sem 𝓤 H A ftrue))) (sem 𝓤 H A (owns (ShrRef (named 0) κ₀ (D .row) ∷ ShrSlice (named 1) κ₁ u8 ∷ []) (record { ptr = (b, o); name = γ; now = h }, (bytes, tt)) (vptr b o ∷ [], (slice bytes ∷ [], tt))))
 
     abbrev pub Left : N .row .Denot → Val → SProp 𝓤
     Left r w = ⋆ 𝓤 H A (‵ (N .row .own r (w ∷ [])) ∷ ‵ (flft κ₀ q₀) ∷ (‵ (flft κ₁ q₁) ⊛ ‵ ftrue) ∷ [])
@@ -67,18 +70,24 @@ module _ {M : Type 1} {𝓤 : URA M} {H : Heap 𝓤} {A : Atoms 𝓤} (S N : Kno
         (hears : (r : N .row .Denot) → ent 𝓤 (Ens r) (fact 𝓤 (Said r)))
         (exits : (r : N .row .Denot) (w : Val) → Said r → ent 𝓤 (Left r w) (Post w))
         (C : Calls 𝓤 H) (Λ : Loops 𝓤 H) (fm : FmC 𝓤 H (W .laws) C) (met : ent 𝓤 Handed (C f called-with Q)) where
-      pub walk : Room u8 (length (bytes .now)) → ent 𝓤 Entered (WpFn 𝓤 H C Λ (method f) (vptr b o ∷ sliceVal (bytes .ptr) (length (bytes .now)) ∷ []) Post)
+      pub walk : Room u8 (length (bytes .now)) → ent 𝓤 Entered (WpFn 𝓤 H C Λ (method f) (vptr b o ∷ slice bytes ∷ []) Post)
       walk bytes-room =
-          qed W ((‵ (flft κ₀ q₀) ⊛ ‵ (flft κ₁ q₁) ⊛ ‵ ftrue) ∷ ‵ (owns (ShrRef (named 0) κ₀ (D .row) ∷ ShrSlice (named 1) κ₁ u8 ∷ []) (record { ptr = (b, o); name = γ; now = h }, (bytes, tt)) (vptr b o ∷ [], (sliceVal (bytes .ptr) (length (bytes .now)) ∷ [], tt))) ∷ []) ∵ enter ! C Λ (method f) (vptr b o ∷ sliceVal (bytes .ptr) (length (bytes .now)) ∷ []) _ $
-          alloc1 ! (λ l₀. alloc1 ! (λ l₁. alloc1 ! (λ l₂. alloc1 ! (λ l₃. alloc0 ! $ params1 ! $ pass1 ! (init ! 4 refl (tt, tt)) $ pass1 ! (init ! 2 refl (tt, (tt, (record { fits = bytes-room .0 }, tt)))) $ pass0 ! $
+          qed W ((‵ (flft κ₀ q₀) ⊛ ‵ (flft κ₁ q₁) ⊛ ‵ ftrue) ∷ ‵ (owns (ShrRef (named 0) κ₀ (D .row) ∷ ShrSlice (named 1) κ₁ u8 ∷ []) (record { ptr = (b, o); name = γ; now = h }, (bytes, tt)) (vptr b o ∷ [], (slice bytes ∷ [], tt))) ∷ []) ∵ enter ! C Λ (method f) (vptr b o ∷ slice bytes ∷ []) _ $
+          alloc1 ! (λ l₀. alloc1 ! (λ l₁. alloc1 ! (λ l₂. alloc1 ! (λ l₃. alloc0 ! $ params1 ! $ pass1 ! (init ! 4 refl (tt, tt)) $
+          pass1 ! (init ! 2 refl (tt, (tt, (record { fits = bytes-room .0 }, tt)))) $ pass0 ! $
           -- the borrow is looked into, and shut
-          move ! (9 ∷ []) $ fsplit ! $ fsplit3 ! $ drop ! $ move ! (11 ∷ []) $ split ! $ move ! (3 ∷ 0 ∷ []) $ looks ! tt (D .row) (Is (D .row)) (shows 𝓤 H A (D .row)) (λ y. valD (D .get y) ∷ []) (D .tells) (D .copy) h b o (λ q′ vs. spelt ! (D .row) (Is (D .row)) (shows 𝓤 H A (D .row)) (λ y. valD (D .get y) ∷ []) (D .tells) q′ h vs b o $
+          move ! (9 ∷ []) $ fsplit ! $ fsplit3 ! $ drop ! $ move ! (11 ∷ []) $ split ! $ move ! (3 ∷ 0 ∷ []) $
+          looks ! tt (D .row) (Is (D .row)) (shows 𝓤 H A (D .row)) (λ y. valD (D .get y) ∷ []) (D .tells) (D .copy) h b o (λ q′ vs. spelt ! (D .row) (Is (D .row)) (shows 𝓤 H A (D .row)) (λ y. valD (D .get y) ∷ []) (D .tells) q′ h vs b o $
           use1 W (‵ (fat q′ τD b o (valD x))) (D .opened q′ b o (valD x)) $ move ! (1 ∷ []) $ peeks ! (D .row) (Is (D .row)) (shows 𝓤 H A (D .row)) h (valD x ∷ []) (λ g.
           -- [own; cell; obor; shr; others; res; rest; _3; ~3; _2; ~2; _1; ~1; _0; ~0]
-          assigns ! (of-opd ! (load ! (from ! (hop ! (look ! 11 refl) (fld ! refl (stop !)))) (look-in ! 1 (sub ! 0 refl (whole !))))) (from ! (stop !)) (init ! 7 refl (S .typed x _ (D .owed h _ g))) $ move ! (1 ∷ []) $ use1 W (‵ (cellAt q′ (D .row .mir) (valD x ∷ []) b o)) (D .shut q′ b o (valD x)) $ shuts ! tt (D .row) q′ h (valD x ∷ []) b o $
+          assigns ! (of-opd ! (load ! (from ! (hop ! (look ! 11 refl) (fld ! refl (stop !)))) (look-in ! 1 (sub ! 0 refl (whole !))))) (from ! (stop !)) (init ! 7 refl (S .typed x _ (D .owed h _ g))) $
+          move ! (1 ∷ []) $ use1 W (‵ (cellAt q′ (D .row .mir) (valD x ∷ []) b o)) (D .shut q′ b o (valD x)) $ shuts ! tt (D .row) q′ h (valD x ∷ []) b o $
           -- the call
-          owned ! (S .row) (Is (S .row)) (S .makes) x _ (D .owed h _ g) $ move ! (0 ∷ 5 ∷ []) $ fjoin ! $ move ! (3 ∷ 0 ∷ []) $ join ! $ calls-from ! fm ((‵ (flft κ₁ q₁) ⊛ ‵ ftrue) ⊛ ‵ (owns (S .row ∷ ShrSlice (named 0) κ₁ u8 ∷ []) (x, (bytes, tt)) (S .val x ∷ [], (sliceVal (bytes .ptr) (length (bytes .now)) ∷ [], tt)))) (S .val x ∷ sliceVal (bytes .ptr) (length (bytes .now)) ∷ []) Q met (and-then ! (load ! (from ! (stop !)) (look ! 4 refl)) (and-then ! (load ! (from ! (stop !)) (look ! 6 refl)) (no-more !))) (λ w.
-          use1 W (later (some (λ (r : N .row .Denot). ((‵ (flft κ₁ q₁) ⊛ ‵ ftrue) ⊛ ‵ (N .row .own r (w ∷ []))) ⊛ raw (Ens r)))) (answers w) $ await ! tt $ pick ! (λ r. split ! $ move ! (1 ∷ []) $ use1 W (raw (fact 𝓤 (Said r))) (hears r) $ heard ! (Said r) (λ e. split ! $ move ! (1 ∷ []) $ peeks ! (N .row) (Is (N .row)) (shows 𝓤 H A (N .row)) r (w ∷ []) (λ is. land ! (from ! (stop !)) (init ! 11 refl (N .typed r _ is)) $
+          owned ! (S .row) (Is (S .row)) (S .makes) x _ (D .owed h _ g) $ move ! (0 ∷ 5 ∷ []) $ fjoin ! $ move ! (3 ∷ 0 ∷ []) $ join ! $
+          calls-from ! fm handed called-with Q met (and-then ! (load ! (from ! (stop !)) (look ! 4 refl)) (and-then ! (load ! (from ! (stop !)) (look ! 6 refl)) (no-more !))) (λ w.
+          use1 W (later (some (λ (r : N .row .Denot). ((‵ (flft κ₁ q₁) ⊛ ‵ ftrue) ⊛ ‵ (N .row .own r (w ∷ []))) ⊛ raw (Ens r)))) (answers w) $ await ! tt $
+          pick ! (λ r. split ! $ move ! (1 ∷ []) $ use1 W (raw (fact 𝓤 (Said r))) (hears r) $ heard ! (Said r) (λ e. split ! $ move ! (1 ∷ []) $
+          peeks ! (N .row) (Is (N .row)) (shows 𝓤 H A (N .row)) r (w ∷ []) (λ is. land ! (from ! (stop !)) (init ! 11 refl (N .typed r _ is)) $
           -- [result; others; tok; shr; res; _3; ~3; _2; ~2; _1; ~1; _0; ~0]
           returns ! (look ! 11 refl) $ forget ! 5 refl $ forget ! 7 refl $ forget ! 9 refl $ forget ! 11 refl $
           move ! (11 ∷ 12 ∷ []) $ free1 ! $ move ! (9 ∷ 10 ∷ []) $ free1 ! $ move ! (7 ∷ 8 ∷ []) $ free1 ! $ move ! (5 ∷ 6 ∷ []) $ free1 ! $ free0 ! $

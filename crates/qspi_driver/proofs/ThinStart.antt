@@ -14,7 +14,7 @@ use base.Fml.{Lft, Share, GName, ftrue, fat, flft, fobs, fbor}
 use prog.Wp.{Heap, Calls, Loops, WpFn}
 use ghost.Atoms.{Atoms, sem}
 use contract.Monad.{fact}
-use types.Kit.{Given, ‵, raw, some, later, _⊛_, ⋆, _$_, _∵_, !, qed, by, move, keep, drop, use1, split, join, pick, rewrite, fsplit, fsplit3, fjoin, await}
+use types.Kit.{Given, Item, ‵, raw, some, later, _⊛_, ⋆, _$_, _∵_, !, qed, by, move, keep, drop, use1, split, join, pick, rewrite, fsplit, fsplit3, fjoin, await}
 use types.Run.{look, init, forget, stop, hop, fld, from, load, of-opd, and-then, no-more, assigns, land, returns, enter, alloc1, alloc0, params1, pass1, pass0, free1, free0}
 use types.Part.{whole, sub, look-in, store-in}
 use types.SemTy.{Body}
@@ -41,8 +41,8 @@ module _ {M : Type 1} {𝓤 : URA M} {H : Heap 𝓤} {A : Atoms 𝓤} (S N : Kno
     lifetimes = 1;
     outlives = [];
     params = 2;
-    locals = local (N .ty) valueLocal ∷ local (tyRef (named 0) mut (tyNamed (D .name, []))) valueLocal ∷ local (P .ty) valueLocal ∷ local (S .ty) valueLocal ∷ local (τX) valueLocal ∷ [];
-    body = seq (assign (place 3 []) (rvOpd (copy (place 1 (deref τD ∷ field 0 ∷ []))))) (seq (call f (copy (place 3 []) ∷ copy (place 2 []) ∷ []) (place 4 [])) (seq (assign (place 1 (deref τD ∷ field 0 ∷ [])) (rvOpd (copy (place 4 (field 0 ∷ []))))) (seq (assign (place 0 []) (rvOpd (copy (place 4 (field 1 ∷ []))))) (return))));
+    locals = local (N .ty) valueLocal ∷ local (tyRef (named 0) mut (tyNamed (D .name, []))) valueLocal ∷ local (P .ty) valueLocal ∷ local (S .ty) valueLocal ∷ local τX valueLocal ∷ [];
+    body = seq (assign (place 3 []) (rvOpd (copy (place 1 (deref τD ∷ field 0 ∷ []))))) (seq (call f (copy (place 3 []) ∷ copy (place 2 []) ∷ []) (place 4 [])) (seq (assign (place 1 (deref τD ∷ field 0 ∷ [])) (rvOpd (copy (place 4 (field 0 ∷ []))))) (seq (assign (place 0 []) (rvOpd (copy (place 4 (field 1 ∷ []))))) return)));
   }
 
   module _ (W : Given 𝓤 H A) (f : Name) (κ₀ : Lft) (q₀ : Share) (b o : ℕ) (γ : GName) (h : D .row .Denot) (op : P .row .Denot) where
@@ -55,6 +55,9 @@ module _ {M : Type 1} {𝓤 : URA M} {H : Heap 𝓤} {A : Atoms 𝓤} (S N : Kno
     -- what the method hands to its callee, and what it is called with
     abbrev pub Handed : SProp 𝓤
     Handed = sep 𝓤 (sem 𝓤 H A ftrue) (sem 𝓤 H A (owns (S .row ∷ P .row ∷ []) (x, (op, tt)) (S .val x ∷ [], (P .val op ∷ [], tt))))
+
+    abbrev handed : Item 𝓤
+    handed = (‵ ftrue) ⊛ ‵ (owns (S .row ∷ P .row ∷ []) (x, (op, tt)) (S .val x ∷ [], (P .val op ∷ [], tt)))
 
     abbrev pub called-with : List Val
     called-with = S .val x ∷ P .val op ∷ []
@@ -74,21 +77,32 @@ module _ {M : Type 1} {𝓤 : URA M} {H : Heap 𝓤} {A : Atoms 𝓤} (S N : Kno
       pub walk : Is (P .row) op (P .val op ∷ []) → ent 𝓤 Entered (WpFn 𝓤 H C Λ (method f) (vptr b o ∷ P .val op ∷ []) Post)
       walk is-op =
           qed W ((‵ (flft κ₀ q₀) ⊛ ‵ ftrue) ∷ ‵ (owns (MutRef (named 0) κ₀ (D .row) ∷ P .row ∷ []) (record { ptr = (b, o); name = γ; now = h }, (op, tt)) (vptr b o ∷ [], (P .val op ∷ [], tt))) ∷ []) ∵ enter ! C Λ (method f) (vptr b o ∷ P .val op ∷ []) _ $
-          alloc1 ! (λ l₀. alloc1 ! (λ l₁. alloc1 ! (λ l₂. alloc1 ! (λ l₃. alloc1 ! (λ l₄. alloc0 ! $ params1 ! $ pass1 ! (init ! 6 refl (tt, tt)) $ pass1 ! (init ! 4 refl (P .typed op _ is-op)) $ pass0 ! $
+          alloc1 ! (λ l₀. alloc1 ! (λ l₁. alloc1 ! (λ l₂. alloc1 ! (λ l₃. alloc1 ! (λ l₄. alloc0 ! $ params1 ! $ pass1 ! (init ! 6 refl (tt, tt)) $
+          pass1 ! (init ! 4 refl (P .typed op _ is-op)) $ pass0 ! $
           -- the borrow is opened
-          move ! (11 ∷ []) $ fsplit ! $ fsplit3 ! $ drop ! $ move ! (13 ∷ []) $ split ! $ move ! (2 ∷ 3 ∷ 0 ∷ []) $ opens ! tt (D .row) {h = h} b o (λ vs. spelt ! (D .row) (Is (D .row)) (shows 𝓤 H A (D .row)) (λ y. valD (D .get y) ∷ []) (D .tells) fullShare h vs b o $
-          use1 W (‵ (fat fullShare τD b o (valD x))) (D .opened fullShare b o (valD x)) $ move ! (1 ∷ []) $ peeks ! (D .row) (Is (D .row)) (shows 𝓤 H A (D .row)) h (valD x ∷ []) (λ g.
+          move ! (11 ∷ []) $ fsplit ! $ fsplit3 ! $ drop ! $ move ! (13 ∷ []) $ split ! $ move ! (2 ∷ 3 ∷ 0 ∷ []) $
+          opens ! tt (D .row) {h = h} b o (λ vs. spelt ! (D .row) (Is (D .row)) (shows 𝓤 H A (D .row)) (λ y. valD (D .get y) ∷ []) (D .tells) fullShare h vs b o $
+          use1 W (‵ (fat fullShare τD b o (valD x))) (D .opened fullShare b o (valD x)) $ move ! (1 ∷ []) $
+          peeks ! (D .row) (Is (D .row)) (shows 𝓤 H A (D .row)) h (valD x ∷ []) (λ g.
           -- [own; cell; obor; obs; auth; others; rest; _4; ~4; _3; ~3; _2; ~2; _1; ~1; _0; ~0]
           assigns ! (of-opd ! (load ! (from ! (hop ! (look ! 13 refl) (fld ! refl (stop !)))) (look-in ! 1 (sub ! 0 refl (whole !))))) (from ! (stop !)) (init ! 9 refl (S .typed x _ (D .owed h _ g))) $
           -- the call
-          owned ! (S .row) (Is (S .row)) (S .makes) x _ (D .owed h _ g) $ move ! (0 ∷ 7 ∷ []) $ fjoin ! $ move ! (6 ∷ 0 ∷ []) $ join ! $ calls-from ! fm ((‵ ftrue) ⊛ ‵ (owns (S .row ∷ P .row ∷ []) (x, (op, tt)) (S .val x ∷ [], (P .val op ∷ [], tt)))) (S .val x ∷ P .val op ∷ []) Q met (and-then ! (load ! (from ! (stop !)) (look ! 8 refl)) (and-then ! (load ! (from ! (stop !)) (look ! 10 refl)) (no-more !))) (λ w.
-          use1 W (later (some (λ (r : X .row .Denot). ((‵ ftrue) ⊛ ‵ (X .row .own r (w ∷ []))) ⊛ raw (Ens r)))) (answers w) $ await ! tt $ pick ! (λ r. split ! $ move ! (1 ∷ []) $ use1 W (raw (fact 𝓤 (Said r))) (hears r) $ heard ! (Said r) (λ e. split ! $ move ! (1 ∷ []) $ peeks ! (X .row) (Is (X .row)) (shows 𝓤 H A (X .row)) r (w ∷ []) (λ is.
+          owned ! (S .row) (Is (S .row)) (S .makes) x _ (D .owed h _ g) $ move ! (0 ∷ 7 ∷ []) $ fjoin ! $ move ! (6 ∷ 0 ∷ []) $ join ! $
+          calls-from ! fm handed called-with Q met (and-then ! (load ! (from ! (stop !)) (look ! 8 refl)) (and-then ! (load ! (from ! (stop !)) (look ! 10 refl)) (no-more !))) (λ w.
+          use1 W (later (some (λ (r : X .row .Denot). ((‵ ftrue) ⊛ ‵ (X .row .own r (w ∷ []))) ⊛ raw (Ens r)))) (answers w) $ await ! tt $ pick ! (λ r. split ! $
+          move ! (1 ∷ []) $ use1 W (raw (fact 𝓤 (Said r))) (hears r) $ heard ! (Said r) (λ e. split ! $ move ! (1 ∷ []) $
+          peeks ! (X .row) (Is (X .row)) (shows 𝓤 H A (X .row)) r (w ∷ []) (λ is.
           -- the answer is taken apart
           land ! (from ! (stop !)) (init ! 7 refl (X .typed r _ is)) $ rewrite ! 7 (λ (u : Val). ‵ (fat fullShare τX l₄ 0 u)) (ap only (X .tells r _ is)) refl $ drop ! $
-          assigns ! (of-opd ! (load ! (from ! (fld ! refl (stop !))) (look-in ! 6 (sub ! 0 refl (whole !))))) (from ! (hop ! (look ! 12 refl) (fld ! refl (stop !)))) (store-in ! 2 (sub ! 0 refl (whole !)) (S .typed (X .first r) _ (X .owed-first r _ is))) $ assigns ! (of-opd ! (load ! (from ! (fld ! refl (stop !))) (look-in ! 6 (sub ! 1 refl (whole !))))) (from ! (stop !)) (init ! 14 refl (N .typed (X .second r) _ (X .owed-second r _ is))) $ move ! (1 ∷ []) $ drop ! $
+          assigns ! (of-opd ! (load ! (from ! (fld ! refl (stop !))) (look-in ! 6 (sub ! 0 refl (whole !))))) (from ! (hop ! (look ! 12 refl) (fld ! refl (stop !)))) (store-in ! 2 (sub ! 0 refl (whole !)) (S .typed (X .first r) _ (X .owed-first r _ is))) $
+          assigns ! (of-opd ! (load ! (from ! (fld ! refl (stop !))) (look-in ! 6 (sub ! 1 refl (whole !))))) (from ! (stop !)) (init ! 14 refl (N .typed (X .second r) _ (X .owed-second r _ is))) $
+          move ! (1 ∷ []) $ drop ! $
           -- the borrow is closed
-          owned ! (D .row) (Is (D .row)) (D .makes) (D .put (X .first r)) _ (D .owes (X .first r) (X .owed-first r _ is)) $ move ! (2 ∷ []) $ use1 W (‵ (cellAt fullShare (D .row .mir) (valD (X .first r) ∷ []) b o)) (D .shut fullShare b o (valD (X .first r))) $ move ! (0 ∷ 1 ∷ 3 ∷ 4 ∷ 5 ∷ []) $ closes ! tt (D .row) (D .put (X .first r)) (valD (X .first r) ∷ []) b o $
+          owned ! (D .row) (Is (D .row)) (D .makes) (D .put (X .first r)) _ (D .owes (X .first r) (X .owed-first r _ is)) $ move ! (2 ∷ []) $
+          use1 W (‵ (cellAt fullShare (D .row .mir) (valD (X .first r) ∷ []) b o)) (D .shut fullShare b o (valD (X .first r))) $ move ! (0 ∷ 1 ∷ 3 ∷ 4 ∷ 5 ∷ []) $
+          closes ! tt (D .row) (D .put (X .first r)) (valD (X .first r) ∷ []) b o $
           -- [obs; bor; tok; others; _4; ~4; _3; ~3; _2; ~2; _1; ~1; _0; ~0]
           returns ! (look ! 12 refl) $ forget ! 4 refl $ forget ! 6 refl $ forget ! 8 refl $ forget ! 10 refl $ forget ! 12 refl $
-          move ! (12 ∷ 13 ∷ []) $ free1 ! $ move ! (10 ∷ 11 ∷ []) $ free1 ! $ move ! (8 ∷ 9 ∷ []) $ free1 ! $ move ! (6 ∷ 7 ∷ []) $ free1 ! $ move ! (4 ∷ 5 ∷ []) $ free1 ! $ free0 ! $
+          move ! (12 ∷ 13 ∷ []) $ free1 ! $ move ! (10 ∷ 11 ∷ []) $ free1 ! $ move ! (8 ∷ 9 ∷ []) $ free1 ! $ move ! (6 ∷ 7 ∷ []) $ free1 ! $ move ! (4 ∷ 5 ∷ []) $
+          free1 ! $ free0 ! $
           keep ! (0 ∷ 1 ∷ 2 ∷ 3 ∷ []) $ by ! (exits r (X .owed-second r _ is) e))))))))))))

@@ -22,7 +22,7 @@ use sound.WpLaws.{FmC, fmOf, WpFn-mono}
 use denote.Laws.{Is}
 use denote.Builtin.{u8, u32, bool}
 use denote.Ref.{RefT}
-use denote.Slice.{sliceVal, slice-vals, MutSlice, Room, finally, shr-slice-tells, mut-slice-tells}
+use denote.Slice.{slice-vals, MutSlice, Room, finally, shr-slice-tells, mut-slice-tells}
 use denote.Steps.{owned, heard, nothing}
 use denote.Triple.Entry.{onEntry}
 use denote.Triple.Spec.{Meets, tripleOf}
@@ -43,6 +43,7 @@ use Rattle.qspi_driver.specs.declared.state.Answer.{Answer}
 use Rattle.qspi_driver.proofs.QspiSpansionS25Fl256SIoMode as Driverᵀ
 use Rattle.qspi_driver.proofs.Driven as Drivenᵀ
 use Rattle.qspi_driver.proofs.state.Answer as Answerᵀ
+use Rattle.hand_walks.proofs.Known.{slice}
 use Rattle.qspi_driver.proofs.Types as Types
 use Rattle.hand_walks.proofs.Clauses.{each-of-four}
 use Rattle.qspi_driver.proofs.Driving.{Stepped, Good, begins, goes-on, nearer, ends, steps}
@@ -91,7 +92,7 @@ module _ {M : Type 1} (𝓤 : URA M) (H : Heap 𝓤) (A : Atoms 𝓤) (W : Given
   DV d = vstruct (vcons (Types.state 𝓤 H A W .val (d .state)) vnil)
 
   abbrev Post : Val → SProp 𝓤
-  Post = walkOf 𝓤 H A this.ended stayed (this.clauses 𝓤 H A mem run) .post (((κ₀, (κ₁, (κ₂, (κ₃, tt)))), (q₀, (q₁, (q₂, (q₃, tt)))), tt, (driver, (op, (bytes, (buffer, (log, (replies, tt)))))), (DV driver ∷ [], (Types.op 𝓤 H A W .val op ∷ [], (sliceVal (bytes .ptr) (length (bytes .now)) ∷ [], (sliceVal (buffer .ptr) (length (buffer .now)) ∷ [], (sliceVal (log .ptr) (length (log .now)) ∷ [], (sliceVal (replies .ptr) (length (replies .now)) ∷ [], tt))))))), tt)
+  Post = walkOf 𝓤 H A this.ended stayed (this.clauses 𝓤 H A mem run) .post (((κ₀, (κ₁, (κ₂, (κ₃, tt)))), (q₀, (q₁, (q₂, (q₃, tt)))), tt, (driver, (op, (bytes, (buffer, (log, (replies, tt)))))), (DV driver ∷ [], (Types.op 𝓤 H A W .val op ∷ [], (slice bytes ∷ [], (slice buffer ∷ [], (slice log ∷ [], (slice replies ∷ [], tt))))))), tt)
 
   abbrev Started : Driver → Answer → Type 0
   Started d a = (d ≡ driverOf (begunOf (driver .state) op .state)) × (a ≡ begunOf (driver .state) op .answer)
@@ -108,9 +109,17 @@ module _ {M : Type 1} (𝓤 : URA M) (H : Heap 𝓤) (A : Atoms 𝓤) (W : Given
 
   back-start : (ν b : ℕ) (δ : GName) (w : Val) → ent 𝓤 (Start 𝓤 H A mem run .post (at-start ν b δ) w) (H .⇛ (ex 𝓤 (λ (r : Answer). ex 𝓤 (λ (d : Driver). sep 𝓤 (sep 𝓤 (A .lft (ν ∷ []) fullShare) (sep 𝓤 (A .res δ (Driverᵀ.the-row .coded .code d)) (sem 𝓤 H A (Answerᵀ.the-row .own r (w ∷ []))))) (fact 𝓤 (Started d r))))))
   back-start ν b δ w =
-      qed W (raw (Start 𝓤 H A mem run .post (at-start ν b δ) w) ∷ []) ∵ updating ! $ use1 W (later (some (λ (r : Answer). ((‵ (flft (ν ∷ []) fullShare) ⊛ ‵ ftrue) ⊛ ‵ (Answerᵀ.the-row .own r (w ∷ []))) ⊛ raw (ensured 𝓤 H A start.ended (start.clauses 𝓤 H A mem run) (ν ∷ [], tt) (record { ptr = (b, 0); name = δ; now = driver }, (op, tt)) tt r)))) (id⊢ 𝓤 _) $ await ! tt $ pick ! (λ r. split ! $ move ! (1 ∷ []) $ use1 W (some (λ (z : Driver × (Unit {0} × Unit {0})). ‵ (lasts start.ended (ν ∷ [], tt) (record { ptr = (b, 0); name = δ; now = driver }, (op, tt)) z) ⊛ (raw (fact 𝓤 (z .0 ≡ driverOf (begunOf (driver .state) op .state))) ⊛ raw (fact 𝓤 (r ≡ begunOf (driver .state) op .answer))))) (id⊢ 𝓤 _) $ pick ! (λ z. split ! $ move ! (1 ∷ []) $ split ! $ heard ! (z .0 ≡ driverOf (begunOf (driver .state) op .state)) (λ e₀. heard ! (r ≡ begunOf (driver .state) op .answer) (λ e₁.
+      qed W (raw (Start 𝓤 H A mem run .post (at-start ν b δ) w) ∷ []) ∵ updating ! $
+      use1 W (later (some (λ (r : Answer). ((‵ (flft (ν ∷ []) fullShare) ⊛ ‵ ftrue) ⊛ ‵ (Answerᵀ.the-row .own r (w ∷ []))) ⊛ raw (ensured 𝓤 H A start.ended (start.clauses 𝓤 H A mem run) (ν ∷ [], tt) (record { ptr = (b, 0); name = δ; now = driver }, (op, tt)) tt r)))) (id⊢ 𝓤 _) $
+      await ! tt $ pick ! (λ r. split ! $ move ! (1 ∷ []) $
+      use1 W (some (λ (z : Driver × (Unit {0} × Unit {0})). ‵ (lasts start.ended (ν ∷ [], tt) (record { ptr = (b, 0); name = δ; now = driver }, (op, tt)) z) ⊛ (raw (fact 𝓤 (z .0 ≡ driverOf (begunOf (driver .state) op .state))) ⊛ raw (fact 𝓤 (r ≡ begunOf (driver .state) op .answer))))) (id⊢ 𝓤 _) $
+      pick ! (λ z. split ! $ move ! (1 ∷ []) $ split ! $
+      heard ! (z .0 ≡ driverOf (begunOf (driver .state) op .state)) (λ e₀. heard ! (r ≡ begunOf (driver .state) op .answer) (λ e₁.
       fsplit ! $ move ! (1 ∷ []) $ fsplit ! $ drop ! $ drop ! $ move ! (1 ∷ []) $ split ! $ split ! $ move ! (1 ∷ []) $ drop ! $
-      move ! (0 ∷ 2 ∷ 1 ∷ []) $ at-once ! $ show ! (λ (r : Answer). ex 𝓤 (λ (d : Driver). sep 𝓤 (sep 𝓤 (A .lft (ν ∷ []) fullShare) (sep 𝓤 (A .res δ (Driverᵀ.the-row .coded .code d)) (sem 𝓤 H A (Answerᵀ.the-row .own r (w ∷ []))))) (fact 𝓤 (Started d r)))) r $ show ! (λ (d : Driver). sep 𝓤 (sep 𝓤 (A .lft (ν ∷ []) fullShare) (sep 𝓤 (A .res δ (Driverᵀ.the-row .coded .code d)) (sem 𝓤 H A (Answerᵀ.the-row .own r (w ∷ []))))) (fact 𝓤 (Started d r))) (z .0) $ says ! (e₀, e₁) $ frame ! $ frame ! $ done !))))
+      move ! (0 ∷ 2 ∷ 1 ∷ []) $ at-once ! $
+      show ! (λ (r : Answer). ex 𝓤 (λ (d : Driver). sep 𝓤 (sep 𝓤 (A .lft (ν ∷ []) fullShare) (sep 𝓤 (A .res δ (Driverᵀ.the-row .coded .code d)) (sem 𝓤 H A (Answerᵀ.the-row .own r (w ∷ []))))) (fact 𝓤 (Started d r)))) r $
+      show ! (λ (d : Driver). sep 𝓤 (sep 𝓤 (A .lft (ν ∷ []) fullShare) (sep 𝓤 (A .res δ (Driverᵀ.the-row .coded .code d)) (sem 𝓤 H A (Answerᵀ.the-row .own r (w ∷ []))))) (fact 𝓤 (Started d r))) (z .0) $
+      says ! (e₀, e₁) $ frame ! $ frame ! $ done !))))
 
   -- `is_under_way`
   abbrev at-test : Answer → Test 𝓤 H A mem run .Ghost
@@ -121,51 +130,75 @@ module _ {M : Type 1} (𝓤 : URA M) (H : Heap 𝓤) (A : Atoms 𝓤) (W : Given
 
   back-test : (a : Answer) (w : Val) → ent 𝓤 (Test 𝓤 H A mem run .post (at-test a) w) (H .⇛ (ex 𝓤 (λ (y : Bool). sep 𝓤 (sem 𝓤 H A (bool .own y (w ∷ []))) (fact 𝓤 (y ≡ isUnderWay a)))))
   back-test a w =
-      qed W (raw (Test 𝓤 H A mem run .post (at-test a) w) ∷ []) ∵ updating ! $ use1 W (later (some (λ (r : Bool). ((‵ ftrue) ⊛ ‵ (bool .own r (w ∷ []))) ⊛ raw (ensured 𝓤 H A test.ended (test.clauses 𝓤 H A mem run) tt (a, tt) tt r)))) (id⊢ 𝓤 _) $ await ! tt $ pick ! (λ r. split ! $ move ! (1 ∷ []) $ use1 W (some (λ (z : Unit {0} × Unit {0}). ‵ (lasts test.ended tt (a, tt) z) ⊛ (raw (fact 𝓤 (r ≡ isUnderWay a))))) (id⊢ 𝓤 _) $ pick ! (λ z. split ! $ move ! (1 ∷ []) $ heard ! (r ≡ isUnderWay a) (λ e₀.
+      qed W (raw (Test 𝓤 H A mem run .post (at-test a) w) ∷ []) ∵ updating ! $
+      use1 W (later (some (λ (r : Bool). ((‵ ftrue) ⊛ ‵ (bool .own r (w ∷ []))) ⊛ raw (ensured 𝓤 H A test.ended (test.clauses 𝓤 H A mem run) tt (a, tt) tt r)))) (id⊢ 𝓤 _) $
+      await ! tt $ pick ! (λ r. split ! $ move ! (1 ∷ []) $
+      use1 W (some (λ (z : Unit {0} × Unit {0}). ‵ (lasts test.ended tt (a, tt) z) ⊛ (raw (fact 𝓤 (r ≡ isUnderWay a))))) (id⊢ 𝓤 _) $ pick ! (λ z. split ! $
+      move ! (1 ∷ []) $ heard ! (r ≡ isUnderWay a) (λ e₀.
       fsplit ! $ drop ! $ drop ! $ split ! $ drop ! $
       at-once ! $ show ! (λ (y : Bool). sep 𝓤 (sem 𝓤 H A (bool .own y (w ∷ []))) (fact 𝓤 (y ≡ isUnderWay a))) r $ says ! e₀ $ done !)))
 
   -- `next_reply`
   abbrev at-reply : Driver → Next 𝓤 H A mem run .Ghost
-  at-reply d = (((κ₃, tt), (q₃, tt), tt, (d .state, (replies, tt)), (Types.state 𝓤 H A W .val (d .state) ∷ [], (sliceVal (replies .ptr) (length (replies .now)) ∷ [], tt))), tt)
+  at-reply d = (((κ₃, tt), (q₃, tt), tt, (d .state, (replies, tt)), (Types.state 𝓤 H A W .val (d .state) ∷ [], (slice replies ∷ [], tt))), tt)
 
   goes-reply : (d : Driver) → ent 𝓤 (drives.to-reply (Types.state 𝓤 H A W) (Types.answer 𝓤 H A W) (Types.op 𝓤 H A W) (Types.reply 𝓤 H A W) (Types.driver 𝓤 H A W) (Types.driven 𝓤 H A W) #start #test #next #step W κ₀ κ₁ κ₂ κ₃ q₀ q₁ q₂ q₃ driver op bytes buffer log replies d) (Next 𝓤 H A mem run .pre (at-reply d))
   goes-reply d = qed W (raw (drives.to-reply (Types.state 𝓤 H A W) (Types.answer 𝓤 H A W) (Types.op 𝓤 H A W) (Types.reply 𝓤 H A W) (Types.driver 𝓤 H A W) (Types.driven 𝓤 H A W) #start #test #next #step W κ₀ κ₁ κ₂ κ₃ q₀ q₁ q₂ q₃ driver op bytes buffer log replies d) ∷ []) ∵ frame ! $ done !
 
   back-reply : (d : Driver) (w : Val) → ent 𝓤 (Next 𝓤 H A mem run .post (at-reply d) w) (H .⇛ (ex 𝓤 (λ (r : Reply). sep 𝓤 (sep 𝓤 (A .lft κ₃ q₃) (sem 𝓤 H A (Replyᵀ.the-row .own r (w ∷ [])))) (fact 𝓤 (Replied d r)))))
   back-reply d w =
-      qed W (raw (Next 𝓤 H A mem run .post (at-reply d) w) ∷ []) ∵ updating ! $ use1 W (later (some (λ (r : Reply). ((‵ (flft κ₃ q₃) ⊛ ‵ ftrue) ⊛ ‵ (Replyᵀ.the-row .own r (w ∷ []))) ⊛ raw (ensured 𝓤 H A next.ended (next.clauses 𝓤 H A mem run) (κ₃, tt) (d .state, (replies, tt)) tt r)))) (id⊢ 𝓤 _) $ await ! tt $ pick ! (λ r. split ! $ move ! (1 ∷ []) $ use1 W (some (λ (z : Unit {0} × (Unit {0} × Unit {0})). ‵ (lasts next.ended (κ₃, tt) (d .state, (replies, tt)) z) ⊛ (raw (fact 𝓤 (r ≡ replyOf (replies .now) (d .state .op .replies)))))) (id⊢ 𝓤 _) $ pick ! (λ z. split ! $ move ! (1 ∷ []) $ heard ! (r ≡ replyOf (replies .now) (d .state .op .replies)) (λ e₀.
+      qed W (raw (Next 𝓤 H A mem run .post (at-reply d) w) ∷ []) ∵ updating ! $
+      use1 W (later (some (λ (r : Reply). ((‵ (flft κ₃ q₃) ⊛ ‵ ftrue) ⊛ ‵ (Replyᵀ.the-row .own r (w ∷ []))) ⊛ raw (ensured 𝓤 H A next.ended (next.clauses 𝓤 H A mem run) (κ₃, tt) (d .state, (replies, tt)) tt r)))) (id⊢ 𝓤 _) $
+      await ! tt $ pick ! (λ r. split ! $ move ! (1 ∷ []) $
+      use1 W (some (λ (z : Unit {0} × (Unit {0} × Unit {0})). ‵ (lasts next.ended (κ₃, tt) (d .state, (replies, tt)) z) ⊛ (raw (fact 𝓤 (r ≡ replyOf (replies .now) (d .state .op .replies)))))) (id⊢ 𝓤 _) $
+      pick ! (λ z. split ! $ move ! (1 ∷ []) $ heard ! (r ≡ replyOf (replies .now) (d .state .op .replies)) (λ e₀.
       fsplit ! $ drop ! $ fsplit ! $ drop ! $ drop ! $ split ! $ split ! $ move ! (1 ∷ []) $ drop ! $
-      at-once ! $ show ! (λ (r : Reply). sep 𝓤 (sep 𝓤 (A .lft κ₃ q₃) (sem 𝓤 H A (Replyᵀ.the-row .own r (w ∷ [])))) (fact 𝓤 (Replied d r))) r $ says ! e₀ $ frame ! $ done !)))
+      at-once ! $ show ! (λ (r : Reply). sep 𝓤 (sep 𝓤 (A .lft κ₃ q₃) (sem 𝓤 H A (Replyᵀ.the-row .own r (w ∷ [])))) (fact 𝓤 (Replied d r))) r $ says ! e₀ $ frame ! $
+      done !)))
 
   -- `step`, with the buffer and the log lent again: their machine values have the counts that they were lent with at first
   module _ (ν ρ₁ ρ₂ b : ℕ) (δ ε₁ ε₂ : GName) (d : Driver) (stored logged : List ℕ) (r₀ : Reply) where
     abbrev at-step : Step 𝓤 H A mem run .Ghost
-    at-step = (((ν ∷ [], (κ₀, (ρ₁ ∷ [], (ρ₂ ∷ [], tt)))), (fullShare, (q₀, (fullShare, (fullShare, tt)))), tt, (record { ptr = (b, 0); name = δ; now = d }, (bytes, (lent-at buffer ε₁ stored, (lent-at log ε₂ logged, (r₀, tt))))), (vptr b 0 ∷ [], (sliceVal (bytes .ptr) (length (bytes .now)) ∷ [], (sliceVal (buffer .ptr) (length (buffer .now)) ∷ [], (sliceVal (log .ptr) (length (log .now)) ∷ [], (Types.reply 𝓤 H A W .val r₀ ∷ [], tt)))))), tt)
+    at-step = (((ν ∷ [], (κ₀, (ρ₁ ∷ [], (ρ₂ ∷ [], tt)))), (fullShare, (q₀, (fullShare, (fullShare, tt)))), tt, (record { ptr = (b, 0); name = δ; now = d }, (bytes, (lent-at buffer ε₁ stored, (lent-at log ε₂ logged, (r₀, tt))))), (vptr b 0 ∷ [], (slice bytes ∷ [], (slice buffer ∷ [], (slice log ∷ [], (Types.reply 𝓤 H A W .val r₀ ∷ [], tt)))))), tt)
 
     goes-step : ent 𝓤 (drives.to-step (Types.state 𝓤 H A W) (Types.answer 𝓤 H A W) (Types.op 𝓤 H A W) (Types.reply 𝓤 H A W) (Types.driver 𝓤 H A W) (Types.driven 𝓤 H A W) #start #test #next #step W κ₀ κ₁ κ₂ κ₃ q₀ q₁ q₂ q₃ driver op bytes buffer log replies ν ρ₁ ρ₂ b δ ε₁ ε₂ d stored logged r₀) (Step 𝓤 H A mem run .pre at-step)
     goes-step = qed W (raw (drives.to-step (Types.state 𝓤 H A W) (Types.answer 𝓤 H A W) (Types.op 𝓤 H A W) (Types.reply 𝓤 H A W) (Types.driver 𝓤 H A W) (Types.driven 𝓤 H A W) #start #test #next #step W κ₀ κ₁ κ₂ κ₃ q₀ q₁ q₂ q₃ driver op bytes buffer log replies ν ρ₁ ρ₂ b δ ε₁ ε₂ d stored logged r₀) ∷ []) ∵ frame ! $ done !
 
     back-step : (w : Val) → ent 𝓤 (Step 𝓤 H A mem run .post at-step w) (H .⇛ (ex 𝓤 (λ (a : Answer). ex 𝓤 (λ (y : Driver × (List ℕ × List ℕ)). sep 𝓤 (sep 𝓤 (sep 𝓤 (A .lft (ν ∷ []) fullShare) (sep 𝓤 (A .lft κ₀ q₀) (sep 𝓤 (A .lft (ρ₁ ∷ []) fullShare) (A .lft (ρ₂ ∷ []) fullShare)))) (sep 𝓤 (A .res δ (Driverᵀ.the-row .coded .code (y .0))) (sep 𝓤 (sem 𝓤 H A (finally u8 ε₁ (y .1 .0))) (sep 𝓤 (sem 𝓤 H A (finally u32 ε₂ (y .1 .1))) (sem 𝓤 H A (Answerᵀ.the-row .own a (w ∷ []))))))) (fact 𝓤 (Stepped (bytes .now) d stored logged r₀ (y .0) a (y .1 .0) (y .1 .1)))))))
     back-step w =
-        qed W (raw (Step 𝓤 H A mem run .post at-step w) ∷ []) ∵ updating ! $ use1 W (later (some (λ (r : Answer). ((‵ (flft (ν ∷ []) fullShare) ⊛ ‵ (flft κ₀ q₀) ⊛ ‵ (flft (ρ₁ ∷ []) fullShare) ⊛ ‵ (flft (ρ₂ ∷ []) fullShare) ⊛ ‵ ftrue) ⊛ ‵ (Answerᵀ.the-row .own r (w ∷ []))) ⊛ raw (ensured 𝓤 H A step.ended (step.clauses 𝓤 H A mem run) (ν ∷ [], (κ₀, (ρ₁ ∷ [], (ρ₂ ∷ [], tt)))) (record { ptr = (b, 0); name = δ; now = d }, (bytes, (lent-at buffer ε₁ stored, (lent-at log ε₂ logged, (r₀, tt))))) tt r)))) (id⊢ 𝓤 _) $ await ! tt $ pick ! (λ r. split ! $ move ! (1 ∷ []) $ use1 W (some (λ (z : Driver × (Unit {0} × (List ℕ × (List ℕ × (Unit {0} × Unit {0}))))). ‵ (lasts step.ended (ν ∷ [], (κ₀, (ρ₁ ∷ [], (ρ₂ ∷ [], tt)))) (record { ptr = (b, 0); name = δ; now = d }, (bytes, (lent-at buffer ε₁ stored, (lent-at log ε₂ logged, (r₀, tt))))) z) ⊛ (raw (fact 𝓤 (z .0 ≡ driverOf (steppedOf (d .state) (bytes .now) (length stored) (length logged) r₀ .state))) ⊛ raw (fact 𝓤 (r ≡ steppedOf (d .state) (bytes .now) (length stored) (length logged) r₀ .answer)) ⊛ raw (fact 𝓤 (z .1 .1 .0 ≡ bufferOf (d .state .op) (bytes .now) stored (length logged) r₀)) ⊛ raw (fact 𝓤 (z .1 .1 .1 .0 ≡ logOf (d .state .op) (bytes .now) (length stored) logged r₀))))) (id⊢ 𝓤 _) $ pick ! (λ z. split ! $ move ! (1 ∷ []) $ split ! $ heard ! (z .0 ≡ driverOf (steppedOf (d .state) (bytes .now) (length stored) (length logged) r₀ .state)) (λ e₀. split ! $ heard ! (r ≡ steppedOf (d .state) (bytes .now) (length stored) (length logged) r₀ .answer) (λ e₁. split ! $ heard ! (z .1 .1 .0 ≡ bufferOf (d .state .op) (bytes .now) stored (length logged) r₀) (λ e₂. heard ! (z .1 .1 .1 .0 ≡ logOf (d .state .op) (bytes .now) (length stored) logged r₀) (λ e₃.
-        fsplit ! $ move ! (1 ∷ []) $ fsplit ! $ drop ! $ fsplit ! $ fsplit ! $ move ! (1 ∷ []) $ feqL ! (λ same-last-buffer. move ! (1 ∷ []) $ fsplit ! $ fsplit ! $ move ! (1 ∷ []) $ feqL ! (λ same-last-log. move ! (1 ∷ []) $ fsplit ! $ drop ! $ drop ! $ move ! (3 ∷ []) $ split ! $ split ! $ move ! (1 ∷ []) $ split ! $ move ! (1 ∷ []) $ split ! $ move ! (1 ∷ []) $ split ! $ move ! (1 ∷ []) $ drop ! $
-        move ! (3 ∷ 2 ∷ 1 ∷ 0 ∷ 7 ∷ 6 ∷ 5 ∷ 4 ∷ []) $ move ! (2 ∷ 3 ∷ []) $ join ! $ move ! (2 ∷ 0 ∷ []) $ join ! $ move ! (1 ∷ 0 ∷ []) $ join ! $ at-once ! $ show ! (λ (a : Answer). ex 𝓤 (λ (y : Driver × (List ℕ × List ℕ)). sep 𝓤 (sep 𝓤 (sep 𝓤 (A .lft (ν ∷ []) fullShare) (sep 𝓤 (A .lft κ₀ q₀) (sep 𝓤 (A .lft (ρ₁ ∷ []) fullShare) (A .lft (ρ₂ ∷ []) fullShare)))) (sep 𝓤 (A .res δ (Driverᵀ.the-row .coded .code (y .0))) (sep 𝓤 (sem 𝓤 H A (finally u8 ε₁ (y .1 .0))) (sep 𝓤 (sem 𝓤 H A (finally u32 ε₂ (y .1 .1))) (sem 𝓤 H A (Answerᵀ.the-row .own a (w ∷ []))))))) (fact 𝓤 (Stepped (bytes .now) d stored logged r₀ (y .0) a (y .1 .0) (y .1 .1))))) r $ show ! (λ (y : Driver × (List ℕ × List ℕ)). sep 𝓤 (sep 𝓤 (sep 𝓤 (A .lft (ν ∷ []) fullShare) (sep 𝓤 (A .lft κ₀ q₀) (sep 𝓤 (A .lft (ρ₁ ∷ []) fullShare) (A .lft (ρ₂ ∷ []) fullShare)))) (sep 𝓤 (A .res δ (Driverᵀ.the-row .coded .code (y .0))) (sep 𝓤 (sem 𝓤 H A (finally u8 ε₁ (y .1 .0))) (sep 𝓤 (sem 𝓤 H A (finally u32 ε₂ (y .1 .1))) (sem 𝓤 H A (Answerᵀ.the-row .own r (w ∷ []))))))) (fact 𝓤 (Stepped (bytes .now) d stored logged r₀ (y .0) r (y .1 .0) (y .1 .1)))) (z .0, (z .1 .1 .0, z .1 .1 .1 .0)) $ says ! (record { state = e₀; answer = e₁; stored = e₂; logged = e₃; wide = same-last-buffer; long = same-last-log }) $ frame ! $ frame ! $ frame ! $ frame ! $ done !))))))))
+        qed W (raw (Step 𝓤 H A mem run .post at-step w) ∷ []) ∵ updating ! $
+        use1 W (later (some (λ (r : Answer). ((‵ (flft (ν ∷ []) fullShare) ⊛ ‵ (flft κ₀ q₀) ⊛ ‵ (flft (ρ₁ ∷ []) fullShare) ⊛ ‵ (flft (ρ₂ ∷ []) fullShare) ⊛ ‵ ftrue) ⊛ ‵ (Answerᵀ.the-row .own r (w ∷ []))) ⊛ raw (ensured 𝓤 H A step.ended (step.clauses 𝓤 H A mem run) (ν ∷ [], (κ₀, (ρ₁ ∷ [], (ρ₂ ∷ [], tt)))) (record { ptr = (b, 0); name = δ; now = d }, (bytes, (lent-at buffer ε₁ stored, (lent-at log ε₂ logged, (r₀, tt))))) tt r)))) (id⊢ 𝓤 _) $
+        await ! tt $ pick ! (λ r. split ! $ move ! (1 ∷ []) $
+        use1 W (some (λ (z : Driver × (Unit {0} × (List ℕ × (List ℕ × (Unit {0} × Unit {0}))))). ‵ (lasts step.ended (ν ∷ [], (κ₀, (ρ₁ ∷ [], (ρ₂ ∷ [], tt)))) (record { ptr = (b, 0); name = δ; now = d }, (bytes, (lent-at buffer ε₁ stored, (lent-at log ε₂ logged, (r₀, tt))))) z) ⊛ (raw (fact 𝓤 (z .0 ≡ driverOf (steppedOf (d .state) (bytes .now) (length stored) (length logged) r₀ .state))) ⊛ raw (fact 𝓤 (r ≡ steppedOf (d .state) (bytes .now) (length stored) (length logged) r₀ .answer)) ⊛ raw (fact 𝓤 (z .1 .1 .0 ≡ bufferOf (d .state .op) (bytes .now) stored (length logged) r₀)) ⊛ raw (fact 𝓤 (z .1 .1 .1 .0 ≡ logOf (d .state .op) (bytes .now) (length stored) logged r₀))))) (id⊢ 𝓤 _) $
+        pick ! (λ z. split ! $ move ! (1 ∷ []) $ split ! $
+        heard ! (z .0 ≡ driverOf (steppedOf (d .state) (bytes .now) (length stored) (length logged) r₀ .state)) (λ e₀. split ! $
+        heard ! (r ≡ steppedOf (d .state) (bytes .now) (length stored) (length logged) r₀ .answer) (λ e₁. split ! $
+        heard ! (z .1 .1 .0 ≡ bufferOf (d .state .op) (bytes .now) stored (length logged) r₀) (λ e₂. heard ! (z .1 .1 .1 .0 ≡ logOf (d .state .op) (bytes .now) (length stored) logged r₀) (λ e₃.
+        fsplit ! $ move ! (1 ∷ []) $ fsplit ! $ drop ! $ fsplit ! $ fsplit ! $ move ! (1 ∷ []) $ feqL ! (λ same-last-buffer. move ! (1 ∷ []) $ fsplit ! $ fsplit ! $
+        move ! (1 ∷ []) $ feqL ! (λ same-last-log. move ! (1 ∷ []) $ fsplit ! $ drop ! $ drop ! $ move ! (3 ∷ []) $ split ! $ split ! $ move ! (1 ∷ []) $ split ! $
+        move ! (1 ∷ []) $ split ! $ move ! (1 ∷ []) $ split ! $ move ! (1 ∷ []) $ drop ! $
+        move ! (3 ∷ 2 ∷ 1 ∷ 0 ∷ 7 ∷ 6 ∷ 5 ∷ 4 ∷ []) $ move ! (2 ∷ 3 ∷ []) $ join ! $ move ! (2 ∷ 0 ∷ []) $ join ! $ move ! (1 ∷ 0 ∷ []) $ join ! $ at-once ! $
+        show ! (λ (a : Answer). ex 𝓤 (λ (y : Driver × (List ℕ × List ℕ)). sep 𝓤 (sep 𝓤 (sep 𝓤 (A .lft (ν ∷ []) fullShare) (sep 𝓤 (A .lft κ₀ q₀) (sep 𝓤 (A .lft (ρ₁ ∷ []) fullShare) (A .lft (ρ₂ ∷ []) fullShare)))) (sep 𝓤 (A .res δ (Driverᵀ.the-row .coded .code (y .0))) (sep 𝓤 (sem 𝓤 H A (finally u8 ε₁ (y .1 .0))) (sep 𝓤 (sem 𝓤 H A (finally u32 ε₂ (y .1 .1))) (sem 𝓤 H A (Answerᵀ.the-row .own a (w ∷ []))))))) (fact 𝓤 (Stepped (bytes .now) d stored logged r₀ (y .0) a (y .1 .0) (y .1 .1))))) r $
+        show ! (λ (y : Driver × (List ℕ × List ℕ)). sep 𝓤 (sep 𝓤 (sep 𝓤 (A .lft (ν ∷ []) fullShare) (sep 𝓤 (A .lft κ₀ q₀) (sep 𝓤 (A .lft (ρ₁ ∷ []) fullShare) (A .lft (ρ₂ ∷ []) fullShare)))) (sep 𝓤 (A .res δ (Driverᵀ.the-row .coded .code (y .0))) (sep 𝓤 (sem 𝓤 H A (finally u8 ε₁ (y .1 .0))) (sep 𝓤 (sem 𝓤 H A (finally u32 ε₂ (y .1 .1))) (sem 𝓤 H A (Answerᵀ.the-row .own r (w ∷ []))))))) (fact 𝓤 (Stepped (bytes .now) d stored logged r₀ (y .0) r (y .1 .0) (y .1 .1)))) (z .0, (z .1 .1 .0, z .1 .1 .1 .0)) $
+        says ! (record { state = e₀; answer = e₁; stored = e₂; logged = e₃; wide = same-last-buffer; long = same-last-log }) $ frame ! $ frame ! $ frame ! $ frame ! $
+        done !))))))))
 
   exits : (d : Driver) (a : Answer) (stored logged : List ℕ) → Is Driverᵀ.the-row d (DV d ∷ []) → Is Answerᵀ.the-row a (Types.answer 𝓤 H A W .val a ∷ []) → Good (bytes .now) (replies .now) driver op (buffer .now) (log .now) d a stored logged → isUnderWay a ≡ false
-      → ent 𝓤 (⋆ 𝓤 H A (‵ (MutSlice (named 1) κ₁ u8 .own (lent-at buffer (buffer .name) stored) (sliceVal (buffer .ptr) (length (buffer .now)) ∷ [])) ∷ ‵ (MutSlice (named 1) κ₂ u32 .own (lent-at log (log .name) logged) (sliceVal (log .ptr) (length (log .now)) ∷ [])) ∷ ‵ (flft κ₀ q₀) ∷ ‵ (flft κ₁ q₁) ∷ ‵ (flft κ₂ q₂) ∷ ‵ (flft κ₃ q₃) ∷ [])) (Post (vstruct (vcons (DV d) (vcons (Types.answer 𝓤 H A W .val a) vnil))))
+      → ent 𝓤 (⋆ 𝓤 H A (‵ (MutSlice (named 1) κ₁ u8 .own (lent-at buffer (buffer .name) stored) (slice buffer ∷ [])) ∷ ‵ (MutSlice (named 1) κ₂ u32 .own (lent-at log (log .name) logged) (slice log ∷ [])) ∷ ‵ (flft κ₀ q₀) ∷ ‵ (flft κ₁ q₁) ∷ ‵ (flft κ₂ q₂) ∷ ‵ (flft κ₃ q₃) ∷ [])) (Post (vstruct (vcons (DV d) (vcons (Types.answer 𝓤 H A W .val a) vnil))))
   exits d a stored logged is-d is-a g h =
       let e = ends (bytes .now) (replies .now) driver op (buffer .now) (log .now) d a stored logged g h in
-      qed W (‵ (MutSlice (named 1) κ₁ u8 .own (lent-at buffer (buffer .name) stored) (sliceVal (buffer .ptr) (length (buffer .now)) ∷ [])) ∷ ‵ (MutSlice (named 1) κ₂ u32 .own (lent-at log (log .name) logged) (sliceVal (log .ptr) (length (log .now)) ∷ [])) ∷ ‵ (flft κ₀ q₀) ∷ ‵ (flft κ₁ q₁) ∷ ‵ (flft κ₂ q₂) ∷ ‵ (flft κ₃ q₃) ∷ []) ∵
+      qed W (‵ (MutSlice (named 1) κ₁ u8 .own (lent-at buffer (buffer .name) stored) (slice buffer ∷ [])) ∷ ‵ (MutSlice (named 1) κ₂ u32 .own (lent-at log (log .name) logged) (slice log ∷ [])) ∷ ‵ (flft κ₀ q₀) ∷ ‵ (flft κ₁ q₁) ∷ ‵ (flft κ₂ q₂) ∷ ‵ (flft κ₃ q₃) ∷ []) ∵
       suffices ! _
-      (via 𝓤 _ (monoR 𝓤 (onExit 𝓤 H A this.ended stayed (κ₀, (κ₁, (κ₂, (κ₃, tt)))) (q₀, (q₁, (q₂, (q₃, tt)))) (DV driver ∷ [], (Types.op 𝓤 H A W .val op ∷ [], (sliceVal (bytes .ptr) (length (bytes .now)) ∷ [], (sliceVal (buffer .ptr) (length (buffer .now)) ∷ [], (sliceVal (log .ptr) (length (log .now)) ∷ [], (sliceVal (replies .ptr) (length (replies .now)) ∷ [], tt)))))) (vstruct (vcons (DV d) (vcons (Types.answer 𝓤 H A W .val a) vnil))) (record { driver = d; answer = a }) (driver, (op, (bytes, (buffer, (log, (replies, tt)))))) (tt, (tt, (tt, (stored, (logged, (tt, tt))))))) (each-of-four 𝓤 _ _ _ _))
-      (ends-at 𝓤 H A this.ended stayed (this.clauses 𝓤 H A mem run) W (((κ₀, (κ₁, (κ₂, (κ₃, tt)))), (q₀, (q₁, (q₂, (q₃, tt)))), tt, (driver, (op, (bytes, (buffer, (log, (replies, tt)))))), (DV driver ∷ [], (Types.op 𝓤 H A W .val op ∷ [], (sliceVal (bytes .ptr) (length (bytes .now)) ∷ [], (sliceVal (buffer .ptr) (length (buffer .now)) ∷ [], (sliceVal (log .ptr) (length (log .now)) ∷ [], (sliceVal (replies .ptr) (length (replies .now)) ∷ [], tt))))))), tt) (vstruct (vcons (DV d) (vcons (Types.answer 𝓤 H A W .val a) vnil))) (record { driver = d; answer = a }) (tt, (tt, (tt, (stored, (logged, (tt, tt)))))) (tt, (tt, (tt, (g .wide, (g .long, (tt, tt)))))))) $
+      (via 𝓤 _ (monoR 𝓤 (onExit 𝓤 H A this.ended stayed (κ₀, (κ₁, (κ₂, (κ₃, tt)))) (q₀, (q₁, (q₂, (q₃, tt)))) (DV driver ∷ [], (Types.op 𝓤 H A W .val op ∷ [], (slice bytes ∷ [], (slice buffer ∷ [], (slice log ∷ [], (slice replies ∷ [], tt)))))) (vstruct (vcons (DV d) (vcons (Types.answer 𝓤 H A W .val a) vnil))) (record { driver = d; answer = a }) (driver, (op, (bytes, (buffer, (log, (replies, tt)))))) (tt, (tt, (tt, (stored, (logged, (tt, tt))))))) (each-of-four 𝓤 _ _ _ _))
+      (ends-at 𝓤 H A this.ended stayed (this.clauses 𝓤 H A mem run) W (((κ₀, (κ₁, (κ₂, (κ₃, tt)))), (q₀, (q₁, (q₂, (q₃, tt)))), tt, (driver, (op, (bytes, (buffer, (log, (replies, tt)))))), (DV driver ∷ [], (Types.op 𝓤 H A W .val op ∷ [], (slice bytes ∷ [], (slice buffer ∷ [], (slice log ∷ [], (slice replies ∷ [], tt))))))), tt) (vstruct (vcons (DV d) (vcons (Types.answer 𝓤 H A W .val a) vnil))) (record { driver = d; answer = a }) (tt, (tt, (tt, (stored, (logged, (tt, tt)))))) (tt, (tt, (tt, (g .wide, (g .long, (tt, tt)))))))) $
       says ! (ap (λ (x : Drive). x .driver) e, (ap (λ (x : Drive). x .answer) e, (ap (λ (x : Drive). x .buffer) e, ap (λ (x : Drive). x .log) e))) $
-      nothing ! $ move ! (6 ∷ 0 ∷ []) $ join ! $ move ! (5 ∷ 0 ∷ []) $ join ! $ move ! (4 ∷ 0 ∷ []) $ join ! $ move ! (3 ∷ 0 ∷ []) $ join ! $ frame ! $ nothing ! $ nothing ! $ fjoin ! $ move ! (2 ∷ 0 ∷ []) $ fjoin ! $ move ! (1 ∷ 0 ∷ []) $ fjoin ! $ nothing ! $ fjoin ! $ nothing ! $ fjoin ! $ nothing ! $ fjoin ! $ frame ! $ owned ! Drivenᵀ.the-row (Is Drivenᵀ.the-row) (Types.driven 𝓤 H A W .makes) (record { driver = d; answer = a }) _ (Types.driven 𝓤 H A W .owes d a is-d is-a) $ done !
+      nothing ! $ move ! (6 ∷ 0 ∷ []) $ join ! $ move ! (5 ∷ 0 ∷ []) $ join ! $ move ! (4 ∷ 0 ∷ []) $ join ! $ move ! (3 ∷ 0 ∷ []) $ join ! $ frame ! $ nothing ! $
+      nothing ! $ fjoin ! $ move ! (2 ∷ 0 ∷ []) $ fjoin ! $ move ! (1 ∷ 0 ∷ []) $ fjoin ! $ nothing ! $ fjoin ! $ nothing ! $ fjoin ! $ nothing ! $ fjoin ! $ frame ! $
+      owned ! Drivenᵀ.the-row (Is Drivenᵀ.the-row) (Types.driven 𝓤 H A W .makes) (record { driver = d; answer = a }) _ (Types.driven 𝓤 H A W .owes d a is-d is-a) $ done !
 
   module _ (𝓣 : Tables 𝓤 H) (fm : FmC 𝓤 H (W .laws) (𝓣 .C)) (known-start : Triple 𝓤 (𝓣 .C #start) (Start 𝓤 H A mem run)) (known-test : Triple 𝓤 (𝓣 .C #test) (Test 𝓤 H A mem run)) (known-next : Triple 𝓤 (𝓣 .C #next) (Next 𝓤 H A mem run)) (known-step : Triple 𝓤 (𝓣 .C #step) (Step 𝓤 H A mem run)) where
     walk : Is Driverᵀ.the-row driver (DV driver ∷ []) → Is Opᵀ.the-row op (Types.op 𝓤 H A W .val op ∷ []) → Room u8 (length (bytes .now)) → Room u8 (length (buffer .now)) → Room u32 (length (log .now)) → Room u32 (length (replies .now))
-        → ent 𝓤 (onEntry 𝓤 H A this.signature (κ₀, (κ₁, (κ₂, (κ₃, tt)))) (q₀, (q₁, (q₂, (q₃, tt)))) (driver, (op, (bytes, (buffer, (log, (replies, tt)))))) (DV driver ∷ [], (Types.op 𝓤 H A W .val op ∷ [], (sliceVal (bytes .ptr) (length (bytes .now)) ∷ [], (sliceVal (buffer .ptr) (length (buffer .now)) ∷ [], (sliceVal (log .ptr) (length (log .now)) ∷ [], (sliceVal (replies .ptr) (length (replies .now)) ∷ [], tt))))))) (WpFn 𝓤 H (𝓣 .C) (𝓣 .Λ) code.function (DV driver ∷ Types.op 𝓤 H A W .val op ∷ sliceVal (bytes .ptr) (length (bytes .now)) ∷ sliceVal (buffer .ptr) (length (buffer .now)) ∷ sliceVal (log .ptr) (length (log .now)) ∷ sliceVal (replies .ptr) (length (replies .now)) ∷ []) Post)
+        → ent 𝓤 (onEntry 𝓤 H A this.signature (κ₀, (κ₁, (κ₂, (κ₃, tt)))) (q₀, (q₁, (q₂, (q₃, tt)))) (driver, (op, (bytes, (buffer, (log, (replies, tt)))))) (DV driver ∷ [], (Types.op 𝓤 H A W .val op ∷ [], (slice bytes ∷ [], (slice buffer ∷ [], (slice log ∷ [], (slice replies ∷ [], tt))))))) (WpFn 𝓤 H (𝓣 .C) (𝓣 .Λ) code.function (DV driver ∷ Types.op 𝓤 H A W .val op ∷ slice bytes ∷ slice buffer ∷ slice log ∷ slice replies ∷ []) Post)
     walk =
         drives.walk (Types.state 𝓤 H A W) (Types.answer 𝓤 H A W) (Types.op 𝓤 H A W) (Types.reply 𝓤 H A W) (Types.driver 𝓤 H A W) (Types.driven 𝓤 H A W) #start #test #next #step W κ₀ κ₁ κ₂ κ₃ q₀ q₁ q₂ q₃ driver op bytes buffer log replies isUnderWay Started Replied (Stepped (bytes .now)) (Good (bytes .now) (replies .now) driver op (buffer .now) (log .now)) Post
         (λ ν b δ. Start 𝓤 H A mem run .post (at-start ν b δ)) (λ a. Test 𝓤 H A mem run .post (at-test a)) (λ d. Next 𝓤 H A mem run .post (at-reply d)) (λ ν ρ₁ ρ₂ b δ ε₁ ε₂ d stored logged r. Step 𝓤 H A mem run .post (at-step ν ρ₁ ρ₂ b δ ε₁ ε₂ d stored logged r))
@@ -176,7 +209,7 @@ module _ {M : Type 1} (𝓤 : URA M) (H : Heap 𝓤) (A : Atoms 𝓤) (W : Given
         (λ ν b δ. via 𝓤 (Start 𝓤 H A mem run .pre (at-start ν b δ)) (goes-start ν b δ) (known-start (at-start ν b δ)))
         (λ a. via 𝓤 (Test 𝓤 H A mem run .pre (at-test a)) (goes-test a) (known-test (at-test a)))
         (λ d. via 𝓤 (Next 𝓤 H A mem run .pre (at-reply d)) (goes-reply d) (known-next (at-reply d)))
-        (λ ν ρ₁ ρ₂ b δ ε₁ ε₂ d stored logged r wide long. via 𝓤 (Step 𝓤 H A mem run .pre (at-step ν ρ₁ ρ₂ b δ ε₁ ε₂ d stored logged r)) (goes-step ν ρ₁ ρ₂ b δ ε₁ ε₂ d stored logged r) (known-step (at-step ν ρ₁ ρ₂ b δ ε₁ ε₂ d stored logged r)))
+        (λ ν ρ₁ ρ₂ b δ ε₁ ε₂ d stored logged r. via 𝓤 (Step 𝓤 H A mem run .pre (at-step ν ρ₁ ρ₂ b δ ε₁ ε₂ d stored logged r)) (goes-step ν ρ₁ ρ₂ b δ ε₁ ε₂ d stored logged r) (known-step (at-step ν ρ₁ ρ₂ b δ ε₁ ε₂ d stored logged r)))
 
 module _ {M : Type 1} (𝓤 : URA M) (H : Heap 𝓤) (A : Atoms 𝓤) (W : Given 𝓤 H A) (mem : Memory → SProp 𝓤) (run : Routine → Fun 𝓤) where
   this-walks : (𝓣 : Tables 𝓤 H) → FmC 𝓤 H (W .laws) (𝓣 .C) → Triple 𝓤 (𝓣 .C #start) (Start 𝓤 H A mem run) → Triple 𝓤 (𝓣 .C #test) (Test 𝓤 H A mem run) → Triple 𝓤 (𝓣 .C #next) (Next 𝓤 H A mem run) → Triple 𝓤 (𝓣 .C #step) (Step 𝓤 H A mem run)

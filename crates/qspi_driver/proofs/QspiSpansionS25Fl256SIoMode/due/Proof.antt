@@ -19,7 +19,7 @@ use types.Kit.{Given, ‵, raw, _⊛_, _$_, _∵_, !, qed, move, join, fjoin, su
 use sound.WpLaws.{FmC, fmOf, WpFn-mono}
 use denote.Builtin.{u8}
 use denote.Ref.{RefT, ptr-vals, shr-tells}
-use denote.Slice.{sliceVal, slice-vals, Room, shr-slice-tells}
+use denote.Slice.{slice-vals, Room, shr-slice-tells}
 use denote.Steps.{nothing}
 use denote.Triple.Entry.{onEntry}
 use denote.Triple.Spec.{Meets, tripleOf}
@@ -34,6 +34,7 @@ use Rattle.qspi_driver.specs.declared.QspiSpansionS25Fl256SIoMode.{QspiS
 use Rattle.qspi_operation.specs.declared.Asked.{Asked}
 use Rattle.qspi_driver.proofs.QspiSpansionS25Fl256SIoMode as Driverᵀ
 use Rattle.qspi_operation.proofs.Asked as Askedᵀ
+use Rattle.hand_walks.proofs.Known.{slice}
 use Rattle.qspi_driver.proofs.Types as Types
 use Rattle.qspi_driver.proofs.ThinDue as thin
 use Rattle.qspi_driver.proofs.state.due as callee
@@ -63,14 +64,14 @@ module _ {M : Type 1} (𝓤 : URA M) (H : Heap 𝓤) (A : Atoms 𝓤) (W : Given
   Vals = List Val × (List Val × Unit {0})
 
   abbrev vals : Vals
-  vals = (vptr b o ∷ [], (sliceVal (bytes .ptr) (length (bytes .now)) ∷ [], tt))
+  vals = (vptr b o ∷ [], (slice bytes ∷ [], tt))
 
   abbrev Post : Val → SProp 𝓤
   Post = walkOf 𝓤 H A this.ended stayed (this.clauses 𝓤 H A at-mem run) .post (((κ₀, (κ₁, tt)), (q₀, (q₁, tt)), tt, a, vals), tt)
 
   -- what the callee's triple binds outside, and that the method has what it asks
   abbrev to : Callee 𝓤 H A at-mem run .Ghost
-  to = (((κ₁, tt), (q₁, tt), tt, (h .state, (bytes, tt)), (Types.state 𝓤 H A W .val (h .state) ∷ [], (sliceVal (bytes .ptr) (length (bytes .now)) ∷ [], tt))), tt)
+  to = (((κ₁, tt), (q₁, tt), tt, (h .state, (bytes, tt)), (Types.state 𝓤 H A W .val (h .state) ∷ [], (slice bytes ∷ [], tt))), tt)
 
   goes : ent 𝓤 (thin.Handed (Types.state 𝓤 H A W) (Types.asked 𝓤 H A W) (Types.driver 𝓤 H A W) W #callee κ₀ κ₁ q₀ q₁ b o γ h bytes) (Callee 𝓤 H A at-mem run .pre to)
   goes = qed W (raw (thin.Handed (Types.state 𝓤 H A W) (Types.asked 𝓤 H A W) (Types.driver 𝓤 H A W) W #callee κ₀ κ₁ q₀ q₁ b o γ h bytes) ∷ []) ∵ frame ! $ done !
@@ -88,11 +89,12 @@ module _ {M : Type 1} (𝓤 : URA M) (H : Heap 𝓤) (A : Atoms 𝓤) (W : Given
   exits : (r : Asked) (w : Val) → Said r → ent 𝓤 (thin.Left (Types.state 𝓤 H A W) (Types.asked 𝓤 H A W) (Types.driver 𝓤 H A W) W #callee κ₀ κ₁ q₀ q₁ b o γ h bytes r w) (Post w)
   exits r w e =
       qed W (‵ (Askedᵀ.the-row .own r (w ∷ [])) ∷ ‵ (flft κ₀ q₀) ∷ (‵ (flft κ₁ q₁) ⊛ ‵ ftrue) ∷ []) ∵
-      suffices ! _ (ends-at 𝓤 H A this.ended stayed (this.clauses 𝓤 H A at-mem run) W (((κ₀, (κ₁, tt)), (q₀, (q₁, tt)), tt, a, vals), tt) w r (tt, (tt, tt)) (tt, (tt, tt))) $ says ! e $
+      suffices ! _ (ends-at 𝓤 H A this.ended stayed (this.clauses 𝓤 H A at-mem run) W (((κ₀, (κ₁, tt)), (q₀, (q₁, tt)), tt, a, vals), tt) w r (tt, (tt, tt)) (tt, (tt, tt))) $
+      says ! e $
       move ! (1 ∷ 2 ∷ []) $ join ! $ frame ! $ nothing ! $ nothing ! $ fjoin ! $ nothing ! $ fjoin ! $ frame ! $ done !
 
   module _ (C : Calls 𝓤 H) (Λ : Loops 𝓤 H) (fm : FmC 𝓤 H (W .laws) C) (known : Triple 𝓤 (C #callee) (Callee 𝓤 H A at-mem run)) where
-    walk : Room u8 (length (bytes .now)) → ent 𝓤 (onEntry 𝓤 H A this.signature (κ₀, (κ₁, tt)) (q₀, (q₁, tt)) a vals) (WpFn 𝓤 H C Λ code.function (vptr b o ∷ sliceVal (bytes .ptr) (length (bytes .now)) ∷ []) Post)
+    walk : Room u8 (length (bytes .now)) → ent 𝓤 (onEntry 𝓤 H A this.signature (κ₀, (κ₁, tt)) (q₀, (q₁, tt)) a vals) (WpFn 𝓤 H C Λ code.function (vptr b o ∷ slice bytes ∷ []) Post)
     walk = thin.walk (Types.state 𝓤 H A W) (Types.asked 𝓤 H A W) (Types.driver 𝓤 H A W) W #callee κ₀ κ₁ q₀ q₁ b o γ h bytes (Callee 𝓤 H A at-mem run .post to) Post Ens Said (λ w. id⊢ 𝓤 (Callee 𝓤 H A at-mem run .post to w)) hears exits C Λ fm (via 𝓤 (Callee 𝓤 H A at-mem run .pre to) goes (known to))
 
 module _ {M : Type 1} (𝓤 : URA M) (H : Heap 𝓤) (A : Atoms 𝓤) (W : Given 𝓤 H A) (at-mem : Memory → SProp 𝓤) (run : Routine → Fun 𝓤) where

@@ -96,7 +96,8 @@ module _ {M : Type 1} (𝓤 : URA M) (H : Heap 𝓤) (A : Atoms 𝓤) (W : Given
       (via 𝓤 _ (monoR 𝓤 (onExit 𝓤 H A this.ended stayed (κ₀, tt) (q₀, tt) vals (Types.answer 𝓤 H A W .val (r .answer)) (r .answer) a (record { state = r .state }, (tt, tt))) (each-of-two 𝓤 _ _))
       (ends-at 𝓤 H A this.ended stayed (this.clauses 𝓤 H A at-mem run) W (((κ₀, tt), (q₀, tt), tt, a, vals), tt) (Types.answer 𝓤 H A W .val (r .answer)) (r .answer) (record { state = r .state }, (tt, tt)) (tt, (tt, tt)))) $
       says ! (ap (λ (y : Acted). driverOf (y .state)) e, ap (λ (y : Acted). y .answer) e) $
-      move ! (2 ∷ 3 ∷ []) $ join ! $ frame ! $ feqI ! (List Val) (vptr b o ∷ []) (vptr b o ∷ []) refl $ fjoin3 ! $ nothing ! $ nothing ! $ fjoin ! $ move ! (1 ∷ 0 ∷ []) $ fjoin ! $ frame ! $ owned ! Answerᵀ.the-row (Is Answerᵀ.the-row) (Types.answer 𝓤 H A W .makes) (r .answer) _ is $ done !
+      move ! (2 ∷ 3 ∷ []) $ join ! $ frame ! $ feqI ! (List Val) (vptr b o ∷ []) (vptr b o ∷ []) refl $ fjoin3 ! $ nothing ! $ nothing ! $ fjoin ! $ move ! (1 ∷ 0 ∷ []) $
+      fjoin ! $ frame ! $ owned ! Answerᵀ.the-row (Is Answerᵀ.the-row) (Types.answer 𝓤 H A W .makes) (r .answer) _ is $ done !
 
   module _ (C : Calls 𝓤 H) (Λ : Loops 𝓤 H) (fm : FmC 𝓤 H (W .laws) C) (known : Triple 𝓤 (C #callee) (Callee 𝓤 H A at-mem run)) where
     walk : Is Opᵀ.the-row op (Types.op 𝓤 H A W .val op ∷ []) → ent 𝓤 (onEntry 𝓤 H A this.signature (κ₀, tt) (q₀, tt) a vals) (WpFn 𝓤 H C Λ code.function (vptr b o ∷ Types.op 𝓤 H A W .val op ∷ []) Post)

@@ -22,7 +22,7 @@ use denote.Memory.{mem}
 use denote.Laws.{Is}
 use denote.Builtin.{u32, u8}
 use denote.Ref.{RefT, ptr-vals, mut-tells}
-use denote.Slice.{sliceVal, slice-vals, Room, finally, shr-slice-tells, mut-slice-tells}
+use denote.Slice.{slice-vals, Room, finally, shr-slice-tells, mut-slice-tells}
 use denote.Steps.{owned, heard, nothing}
 use denote.Triple.Entry.{onEntry}
 use denote.Triple.Spec.{Meets, tripleOf}
@@ -41,6 +41,7 @@ use Rattle.qspi_driver.proofs.QspiSpansionS25Fl256SIoMode as Driverᵀ
 use Rattle.qspi_driver.proofs.state.Answer as Answerᵀ
 use Rattle.qspi_operation.specs.declared.Reply.{Reply}
 use Rattle.qspi_operation.proofs.Reply as Replyᵀ
+use Rattle.hand_walks.proofs.Known.{slice}
 use Rattle.qspi_driver.proofs.Types as Types
 use Rattle.hand_walks.proofs.Clauses.{each-of-four}
 use Rattle.qspi_driver.proofs.ThinStep as thin
@@ -71,14 +72,14 @@ module _ {M : Type 1} (𝓤 : URA M) (H : Heap 𝓤) (A : Atoms 𝓤) (W : Given
   Vals = List Val × (List Val × (List Val × (List Val × (List Val × Unit {0}))))
 
   abbrev vals : Vals
-  vals = (vptr b o ∷ [], (sliceVal (bytes .ptr) (length (bytes .now)) ∷ [], (sliceVal (buffer .ptr) (length (buffer .now)) ∷ [], (sliceVal (log .ptr) (length (log .now)) ∷ [], (Types.reply 𝓤 H A W .val reply ∷ [], tt)))))
+  vals = (vptr b o ∷ [], (slice bytes ∷ [], (slice buffer ∷ [], (slice log ∷ [], (Types.reply 𝓤 H A W .val reply ∷ [], tt)))))
 
   abbrev Post : Val → SProp 𝓤
   Post = walkOf 𝓤 H A this.ended stayed (this.clauses 𝓤 H A at-mem run) .post (((κ₀, (κ₁, (κ₂, (κ₃, tt)))), (q₀, (q₁, (q₂, (q₃, tt)))), tt, a, vals), tt)
 
   -- what the callee's triple binds outside, and that the method has what it asks
   abbrev to : Callee 𝓤 H A at-mem run .Ghost
-  to = (((κ₁, (κ₂, (κ₃, tt))), (q₁, (q₂, (q₃, tt))), tt, (h .state, (bytes, (buffer, (log, (reply, tt))))), (Types.state 𝓤 H A W .val (h .state) ∷ [], (sliceVal (bytes .ptr) (length (bytes .now)) ∷ [], (sliceVal (buffer .ptr) (length (buffer .now)) ∷ [], (sliceVal (log .ptr) (length (log .now)) ∷ [], (Types.reply 𝓤 H A W .val reply ∷ [], tt)))))), tt)
+  to = (((κ₁, (κ₂, (κ₃, tt))), (q₁, (q₂, (q₃, tt))), tt, (h .state, (bytes, (buffer, (log, (reply, tt))))), (Types.state 𝓤 H A W .val (h .state) ∷ [], (slice bytes ∷ [], (slice buffer ∷ [], (slice log ∷ [], (Types.reply 𝓤 H A W .val reply ∷ [], tt)))))), tt)
 
   goes : ent 𝓤 (thin.Handed (Types.state 𝓤 H A W) (Types.answer 𝓤 H A W) (Types.reply 𝓤 H A W) (Types.driver 𝓤 H A W) (Types.acted 𝓤 H A W) W #callee κ₀ κ₁ κ₂ κ₃ q₀ q₁ q₂ q₃ b o γ h bytes buffer log reply) (Callee 𝓤 H A at-mem run .pre to)
   goes = qed W (raw (thin.Handed (Types.state 𝓤 H A W) (Types.answer 𝓤 H A W) (Types.reply 𝓤 H A W) (Types.driver 𝓤 H A W) (Types.acted 𝓤 H A W) W #callee κ₀ κ₁ κ₂ κ₃ q₀ q₁ q₂ q₃ b o γ h bytes buffer log reply) ∷ []) ∵ frame ! $ done !
@@ -92,7 +93,13 @@ module _ {M : Type 1} (𝓤 : URA M) (H : Heap 𝓤) (A : Atoms 𝓤) (W : Given
 
   hears : (r : Acted) → ent 𝓤 (Ens r) (ex 𝓤 (λ (y : List ℕ × (List ℕ × Unit {0})). sep 𝓤 (sep 𝓤 (sem 𝓤 H A (finally u8 (buffer .name) (y .0))) (sem 𝓤 H A (finally u32 (log .name) (y .1 .0)))) (fact 𝓤 (Said r (y .0) (y .1 .0)))))
   hears r =
-      qed W (raw (ensured 𝓤 H A callee.ended (callee.clauses 𝓤 H A at-mem run) (κ₁, (κ₂, (κ₃, tt))) (h .state, (bytes, (buffer, (log, (reply, tt))))) tt r) ∷ []) ∵ use1 W (some (λ (z : Unit {0} × (Unit {0} × (List ℕ × (List ℕ × (Unit {0} × Unit {0}))))). ‵ (lasts callee.ended (κ₁, (κ₂, (κ₃, tt))) (h .state, (bytes, (buffer, (log, (reply, tt))))) z) ⊛ raw (fact 𝓤 ((r ≡ steppedOf (h .state) (bytes .now) (length (buffer .now)) (length (log .now)) reply) × ((z .1 .1 .0) ≡ bufferOf (h .state .op) (bytes .now) (buffer .now) (length (log .now)) reply) × ((z .1 .1 .1 .0) ≡ logOf (h .state .op) (bytes .now) (length (buffer .now)) (log .now) reply))))) (id⊢ 𝓤 _) $ pick ! (λ z. split ! $ move ! (1 ∷ []) $ heard ! ((r ≡ steppedOf (h .state) (bytes .now) (length (buffer .now)) (length (log .now)) reply) × ((z .1 .1 .0) ≡ bufferOf (h .state .op) (bytes .now) (buffer .now) (length (log .now)) reply) × ((z .1 .1 .1 .0) ≡ logOf (h .state .op) (bytes .now) (length (buffer .now)) (log .now) reply)) (λ e. fsplit ! $ drop ! $ fsplit ! $ drop ! $ fsplit ! $ fsplit ! $ move ! (1 ∷ []) $ feqL ! (λ same-buffer. move ! (1 ∷ []) $ fsplit ! $ fsplit ! $ move ! (1 ∷ []) $ feqL ! (λ same-log. move ! (1 ∷ []) $ fsplit ! $ drop ! $ drop ! $ move ! (1 ∷ 0 ∷ []) $ show ! (λ (y : List ℕ × (List ℕ × Unit {0})). sep 𝓤 (sep 𝓤 (sem 𝓤 H A (finally u8 (buffer .name) (y .0))) (sem 𝓤 H A (finally u32 (log .name) (y .1 .0)))) (fact 𝓤 (Said r (y .0) (y .1 .0)))) (z .1 .1 .0, (z .1 .1 .1 .0, tt)) $ says ! (e .0, e .1, e .2, same-buffer, same-log) $ frame ! $ done !))))
+      qed W (raw (ensured 𝓤 H A callee.ended (callee.clauses 𝓤 H A at-mem run) (κ₁, (κ₂, (κ₃, tt))) (h .state, (bytes, (buffer, (log, (reply, tt))))) tt r) ∷ []) ∵ use1 W (some (λ (z : Unit {0} × (Unit {0} × (List ℕ × (List ℕ × (Unit {0} × Unit {0}))))). ‵ (lasts callee.ended (κ₁, (κ₂, (κ₃, tt))) (h .state, (bytes, (buffer, (log, (reply, tt))))) z) ⊛ raw (fact 𝓤 ((r ≡ steppedOf (h .state) (bytes .now) (length (buffer .now)) (length (log .now)) reply) × ((z .1 .1 .0) ≡ bufferOf (h .state .op) (bytes .now) (buffer .now) (length (log .now)) reply) × ((z .1 .1 .1 .0) ≡ logOf (h .state .op) (bytes .now) (length (buffer .now)) (log .now) reply))))) (id⊢ 𝓤 _) $
+      pick ! (λ z. split ! $ move ! (1 ∷ []) $
+      heard ! ((r ≡ steppedOf (h .state) (bytes .now) (length (buffer .now)) (length (log .now)) reply) × ((z .1 .1 .0) ≡ bufferOf (h .state .op) (bytes .now) (buffer .now) (length (log .now)) reply) × ((z .1 .1 .1 .0) ≡ logOf (h .state .op) (bytes .now) (length (buffer .now)) (log .now) reply)) (λ e. fsplit ! $
+      drop ! $ fsplit ! $ drop ! $ fsplit ! $ fsplit ! $ move ! (1 ∷ []) $ feqL ! (λ same-buffer. move ! (1 ∷ []) $ fsplit ! $ fsplit ! $ move ! (1 ∷ []) $
+      feqL ! (λ same-log. move ! (1 ∷ []) $ fsplit ! $ drop ! $ drop ! $ move ! (1 ∷ 0 ∷ []) $
+      show ! (λ (y : List ℕ × (List ℕ × Unit {0})). sep 𝓤 (sep 𝓤 (sem 𝓤 H A (finally u8 (buffer .name) (y .0))) (sem 𝓤 H A (finally u32 (log .name) (y .1 .0)))) (fact 𝓤 (Said r (y .0) (y .1 .0)))) (z .1 .1 .0, (z .1 .1 .1 .0, tt)) $
+      says ! (e .0, e .1, e .2, same-buffer, same-log) $ frame ! $ done !))))
 
   exits : (r : Acted) (buffer′ : List ℕ) (log′ : List ℕ) → Is Answerᵀ.the-row (r .answer) (Types.answer 𝓤 H A W .val (r .answer) ∷ []) → Said r buffer′ log′ → ent 𝓤 (thin.Left (Types.state 𝓤 H A W) (Types.answer 𝓤 H A W) (Types.reply 𝓤 H A W) (Types.driver 𝓤 H A W) (Types.acted 𝓤 H A W) W #callee κ₀ κ₁ κ₂ κ₃ q₀ q₁ q₂ q₃ b o γ h bytes buffer log reply r buffer′ log′) (Post (Types.answer 𝓤 H A W .val (r .answer)))
   exits r buffer′ log′ is e =
@@ -101,10 +108,12 @@ module _ {M : Type 1} (𝓤 : URA M) (H : Heap 𝓤) (A : Atoms 𝓤) (W : Given
       (via 𝓤 _ (monoR 𝓤 (onExit 𝓤 H A this.ended stayed (κ₀, (κ₁, (κ₂, (κ₃, tt)))) (q₀, (q₁, (q₂, (q₃, tt)))) vals (Types.answer 𝓤 H A W .val (r .answer)) (r .answer) a (record { state = r .state }, (tt, (buffer′, (log′, (tt, tt)))))) (each-of-four 𝓤 _ _ _ _))
       (ends-at 𝓤 H A this.ended stayed (this.clauses 𝓤 H A at-mem run) W (((κ₀, (κ₁, (κ₂, (κ₃, tt)))), (q₀, (q₁, (q₂, (q₃, tt)))), tt, a, vals), tt) (Types.answer 𝓤 H A W .val (r .answer)) (r .answer) (record { state = r .state }, (tt, (buffer′, (log′, (tt, tt))))) (tt, (tt, (e .3, (e .4, (tt, tt))))))) $
       says ! (ap (λ (y : Acted). driverOf (y .state)) (e .0), (ap (λ (y : Acted). y .answer) (e .0), (e .1, e .2))) $
-      move ! (2 ∷ 3 ∷ []) $ join ! $ frame ! $ feqI ! (List Val) (vptr b o ∷ []) (vptr b o ∷ []) refl $ fjoin3 ! $ nothing ! $ nothing ! $ fjoin ! $ move ! (3 ∷ 0 ∷ []) $ fjoin ! $ move ! (2 ∷ 0 ∷ []) $ fjoin ! $ nothing ! $ fjoin ! $ move ! (1 ∷ 0 ∷ []) $ fjoin ! $ frame ! $ owned ! Answerᵀ.the-row (Is Answerᵀ.the-row) (Types.answer 𝓤 H A W .makes) (r .answer) _ is $ done !
+      move ! (2 ∷ 3 ∷ []) $ join ! $ frame ! $ feqI ! (List Val) (vptr b o ∷ []) (vptr b o ∷ []) refl $ fjoin3 ! $ nothing ! $ nothing ! $ fjoin ! $ move ! (3 ∷ 0 ∷ []) $
+      fjoin ! $ move ! (2 ∷ 0 ∷ []) $ fjoin ! $ nothing ! $ fjoin ! $ move ! (1 ∷ 0 ∷ []) $ fjoin ! $ frame ! $
+      owned ! Answerᵀ.the-row (Is Answerᵀ.the-row) (Types.answer 𝓤 H A W .makes) (r .answer) _ is $ done !
 
   module _ (C : Calls 𝓤 H) (Λ : Loops 𝓤 H) (fm : FmC 𝓤 H (W .laws) C) (known : Triple 𝓤 (C #callee) (Callee 𝓤 H A at-mem run)) where
-    walk : Room u8 (length (bytes .now)) → Room u8 (length (buffer .now)) → Room u32 (length (log .now)) → Is Replyᵀ.the-row reply (Types.reply 𝓤 H A W .val reply ∷ []) → ent 𝓤 (onEntry 𝓤 H A this.signature (κ₀, (κ₁, (κ₂, (κ₃, tt)))) (q₀, (q₁, (q₂, (q₃, tt)))) a vals) (WpFn 𝓤 H C Λ code.function (vptr b o ∷ sliceVal (bytes .ptr) (length (bytes .now)) ∷ sliceVal (buffer .ptr) (length (buffer .now)) ∷ sliceVal (log .ptr) (length (log .now)) ∷ Types.reply 𝓤 H A W .val reply ∷ []) Post)
+    walk : Room u8 (length (bytes .now)) → Room u8 (length (buffer .now)) → Room u32 (length (log .now)) → Is Replyᵀ.the-row reply (Types.reply 𝓤 H A W .val reply ∷ []) → ent 𝓤 (onEntry 𝓤 H A this.signature (κ₀, (κ₁, (κ₂, (κ₃, tt)))) (q₀, (q₁, (q₂, (q₃, tt)))) a vals) (WpFn 𝓤 H C Λ code.function (vptr b o ∷ slice bytes ∷ slice buffer ∷ slice log ∷ Types.reply 𝓤 H A W .val reply ∷ []) Post)
     walk = thin.walk (Types.state 𝓤 H A W) (Types.answer 𝓤 H A W) (Types.reply 𝓤 H A W) (Types.driver 𝓤 H A W) (Types.acted 𝓤 H A W) W #callee κ₀ κ₁ κ₂ κ₃ q₀ q₁ q₂ q₃ b o γ h bytes buffer log reply (Callee 𝓤 H A at-mem run .post to) Post Ens Said (λ w. id⊢ 𝓤 (Callee 𝓤 H A at-mem run .post to w)) hears exits C Λ fm (via 𝓤 (Callee 𝓤 H A at-mem run .pre to) goes (known to))
 
 module _ {M : Type 1} (𝓤 : URA M) (H : Heap 𝓤) (A : Atoms 𝓤) (W : Given 𝓤 H A) (at-mem : Memory → SProp 𝓤) (run : Routine → Fun 𝓤) where
