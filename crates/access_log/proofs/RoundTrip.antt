@@ -5,17 +5,12 @@ use mathlib.Core.List.{List, [], _∷_, _++_}
 use lib.ListN.{length, getD, length-append}
 use native.Mathlib.Omega.{arith}
 use Rattle.zynq7000.specs.Access.{offsetIn, firstWord, valueWord, encode, recordOf, Aligned, Loggable}
-use Rattle.zynq7000.proofs.AccessLaws.{read-words}
+use Rattle.zynq7000.proofs.AccessLaws.{read-words, length-encode}
 use Rattle.zynq7000.specs.declared.qspi.Access.{Access}
 use Rattle.zynq7000.specs.declared.qspi.Record.{Record}
 use Rattle.access_log.specs.declared.Entry.the-variants as entry
 use Rattle.access_log.specs.Log.{entryOf, entryAt}
 use Rattle.access_log.proofs.Places.{at-whole, at-end}
-
-encode-length : (l : List Access) → length (encode l) ≡ length l * 2
-unfolding encode
-encode-length [] = refl
-encode-length (a ∷ l) = omega (arith, encode-length l)
 
 -- a list from its third element on
 past-two : (x y : ℕ) (l : List ℕ) (n : ℕ) → getD (x ∷ y ∷ l) (n + 2) 0 ≡ getD l n 0
@@ -51,7 +46,7 @@ module _ (d : Access) (rest : List ℕ) where
   -- THEOREM. At each place below the number of accesses stands the access of that place, whatever follows in the log.
   pub reads-back : (l : List Access) (k : ℕ) → Loggable l → k < length l → entryAt (encode l ++ rest) k ≡ entry.Access (getD l k d)
   reads-back l k o h =
-      let long : k < length (encode l ++ rest) / 2 = omega (arith, length-append (encode l) rest, encode-length l) in
+      let long : k < length (encode l ++ rest) / 2 = omega (arith, length-append (encode l) rest, length-encode l) in
       at-whole (encode l ++ rest) k long
       ∙ (ap (λ (w : ℕ). entryOf (recordOf w (getD (encode l ++ rest) (k * 2 + 1) 0)) k) (first-at l k h)
       ∙ (ap (λ (w : ℕ). entryOf (recordOf (firstWord (getD l k d)) w) k) (value-at l k h)
@@ -59,4 +54,4 @@ module _ (d : Access) (rest : List ℕ) where
 
 -- THEOREM. Behind the last access stands the end.
 pub reads-end : (l : List Access) → entryAt (encode l) (length l) ≡ entry.End
-reads-end l = at-end (encode l) (length l) (omega (arith, encode-length l))
+reads-end l = at-end (encode l) (length l) (omega (arith, length-encode l))

@@ -17,7 +17,7 @@ use Rattle.access_log.proofs.Leading.{accesses-written}
 use Rattle.access_log.proofs.Reading.{reader-reads-back}
 use denote.Ref.{now}
 use Rattle.qspi_calls.specs.Machine.{Script, Result, called}
-use Rattle.qspi_calls.proofs.Outcome.{length-encode}
+use Rattle.zynq7000.proofs.AccessLaws.{length-encode}
 use Rattle.qspi_calls.proofs.Registers.{OnRegisters, runs-on-registers}
 use Rattle.qspi_runs.specs.Promise.{ranOf, loggedOf}
 use Rattle.power_cut.proofs.Offsets.{used-words}

@@ -15,7 +15,7 @@ use Rattle.qspi_transfer.specs.Wire.{waits}
 use Rattle.qspi_calls.specs.Chunks.{Chunk}
 use Rattle.qspi_calls.specs.Machine.{wantAt}
 use Rattle.power_cut.specs.Flash.{Flash, commandOf}
-use Rattle.power_cut.specs.Controller.{tx, registerAt, bytesOut, high, isStatusRead, Device, device, configured, afterRead, afterWrite, effect}
+use Rattle.power_cut.specs.Controller.{registerAt, bytesOut, high, isStatusRead, Device, device, configured, afterRead, afterWrite, effect}
 use Rattle.power_cut.specs.Observer.{Transfer, closed, opened, Seen, commanded, isClean, seen, Observed, raised, unless, doubtEnable, doubtAfter, see}
 use Rattle.power_cut.proofs.Driver.{Phase, dropping, opening, waiting, again, taking, midway, action, sendNext, takeNext, phaseAfter, isLast, Stage, enables, programs, polls, clears, disables, transferOf, Driver, at, over, Verdict, accepts, refusesWith, verdictOn, startOn, startNext, settled, stageAfter, driverAfter}
 use Rattle.power_cut.proofs.Fits.{Fit, Going}
@@ -50,10 +50,6 @@ up-configured false false s v t u w r f = refl
 up-written : (v c : ℕ) (t u : List (List ℕ)) (w r : List ℕ) (f : Flash) → high v ≡ upOf (effect (device c t u w r f) (access.Write 0x00 v))
 unfolding effect afterWrite registerAt
 up-written v c t u w r f = sym (up-configured (high c) (high v) (isSet 16 v) (clear 16 v) t u w r f ∙ high-stored v)
-
-up-sent : (v port n c : ℕ) (t u : List (List ℕ)) (w r : List ℕ) (f : Flash) → registerAt port ≡ tx n → high c ≡ upOf (effect (device c t u w r f) (access.Write port v))
-unfolding effect afterWrite
-up-sent v port n c t u w r f e = rw e
 
 start-doubt-on : (y : Verdict) (c : Chunk) (l k : List Chunk) → doubtNow (startOn y c l k) ≡ none
 start-doubt-on accepts c l k = refl

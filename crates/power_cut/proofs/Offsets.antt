@@ -10,7 +10,7 @@ use Rattle.zynq7000.specs.declared.qspi.Access.{Access}
 use Rattle.zynq7000.specs.declared.qspi.Record.the-variants as record-of
 use Rattle.zynq7000.proofs.AccessLaws.{read-words}
 use Rattle.qspi_calls.specs.Machine.{Result}
-use Rattle.qspi_calls.proofs.Outcome.{length-encode}
+use Rattle.zynq7000.proofs.AccessLaws.{length-encode}
 use Rattle.qspi_runs.specs.Promise.{ranOf, loggedOf}
 
 pub used-words : (r : Result) (log : List ℕ) → take (ranOf r .used) (loggedOf r log) ≡ encode (r .log)

@@ -1,10 +1,10 @@
 -- What a run of the code and a run over lists have in common, access by access. Assumes nothing.
-use mathlib.Core.Path.{_≡_, refl, ap, _∙_, sym}
-use mathlib.Core.List.{List, [], _∷_, _++_}
-use Prim.Native.Nat.{ℕ, zero, suc, _+_, _-_, _*_, _/_, _≤_}
+use mathlib.Core.Path.{_≡_, _∙_}
+use mathlib.Core.List.{List, [], _∷_}
+use Prim.Native.Nat.{ℕ, zero, suc, _+_, _-_, _*_, _≤_}
 use native.Mathlib.Omega.{arith}
 use native.Mathlib.Numerals.{add-one}
-use lib.ListN.{length, set}
+use lib.ListN.{length}
 use lib.Seq.{sets}
 use Rattle.zynq7000.specs.Access.{encode, firstWord, valueWord}
 use Rattle.zynq7000.specs.declared.qspi.Access.{Access}
@@ -13,12 +13,7 @@ use Rattle.qspi_transfer.specs.declared.Wire.{Wire}
 use Rattle.qspi_script.specs.declared.Status.{Status}
 use Rattle.qspi_operation.specs.Run.{Run}
 use Rattle.qspi_operation.specs.Step.{written, programmedOf}
-use Rattle.qspi_calls.specs.Machine.{Want, reads, writes, nothing, State, want, next, Result, halt, logging, noRoom, made, runs, valuesIn, bytesIn, countIn, overlaid, readsOf}
-
-pub length-encode : (l : List Access) → length (encode l) ≡ 2 * length l
-unfolding encode
-length-encode [] = refl
-length-encode (a ∷ l) = omega (arith, length-encode l)
+use Rattle.qspi_calls.specs.Machine.{Want, reads, writes, nothing, State, want, next, Result, logging, noRoom, made, runs, valuesIn, bytesIn, countIn, overlaid, readsOf}
 
 -- at most as many accesses as there is room for
 short-made : (y : Want) (s : State) (n : ℕ) (rs : List ℕ) → ((t : State) (vs : List ℕ) → length (runs n t vs .log) ≤ n) → length (made y s n rs (runs n) .log) ≤ suc n

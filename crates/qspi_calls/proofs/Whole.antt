@@ -1,9 +1,8 @@
 -- A whole call: where its start is tied to its script, its run is the run over lists, in answer, used counts, values, log and buffer. Assumes
 -- nothing.
 use mathlib.Core.Path.{_≡_, refl, ap, _∙_, sym}
-use mathlib.Core.Bool.{Bool, true, false}
-use mathlib.Core.List.{List, [], _∷_, _++_}
-use Prim.Native.Nat.{ℕ, zero, suc, _+_, _-_, _*_, _/_, _^_, _≤_, _<_}
+use mathlib.Core.List.{List, [], _++_}
+use Prim.Native.Nat.{ℕ, _+_, _-_, _*_, _/_, _^_, _<_}
 use native.Mathlib.Omega.{arith}
 use lib.ListN.{length, drop}
 use lib.Seq.{sets, sets-eq}
@@ -16,7 +15,8 @@ use Rattle.qspi_operation.specs.declared.Op.{Op}
 use Rattle.qspi_operation.specs.Run.{Run, runOf}
 use Rattle.qspi_operation.specs.Step.{programmedOf}
 use Rattle.qspi_calls.specs.Machine.{Script, State, begin, bytesIn, valuesIn, countIn, Result, runs, called, overlaid, readsOf}
-use Rattle.qspi_calls.proofs.Outcome.{Outcome, length-encode, run-short}
+use Rattle.qspi_calls.proofs.Outcome.{run-short}
+use Rattle.zynq7000.proofs.AccessLaws.{length-encode}
 use Rattle.qspi_calls.proofs.Tied.{Tie, op, tied}
 
 -- what is promised of a whole call: answer and counts, log, buffer, values, bytes programmed

@@ -1,12 +1,12 @@
 -- The calls of document 01 over lists: "One transfer, access by access", the refusals of "What the input can bring on" in their order, and
 -- "What changes shape". Each is a script of specs/Machine.
-use Prim.Native.Nat.{ℕ, zero, suc, _+_, _-_, _*_, _/_, _%_, min}
-use mathlib.Core.Bool.{Bool, true, false, cond, not, _&&_, _||_}
+use Prim.Native.Nat.{ℕ, zero, suc, _+_, _-_, _/_, _%_, min}
+use mathlib.Core.Bool.{Bool, true, false, not, _&&_, _||_}
 use mathlib.Core.List.{List, [], _∷_, _++_, map}
 use lib.Dec.{ltb, eqb}
 use lib.ListN.{length, getD, take, drop}
 use Rattle.zynq7000.specs.Bits.{isSet, flagValue}
-use Rattle.zynq7000.specs.Qspi.{linearWord, configWord, loopbackWord}
+use Rattle.zynq7000.specs.Qspi.{linearWord, configWord}
 use Rattle.zynq7000.specs.Slcr.{sourceCode, clockControlWord}
 use Rattle.zynq7000_hal.specs.Clocks.{baudOf}
 use Rattle.zynq7000_hal.specs.Initialize.{initialConfig, loopbackWords}
@@ -24,7 +24,7 @@ use Rattle.qspi_calls.specs.declared.start.Config.{Config}
 use Rattle.qspi_calls.specs.declared.start.Latency.{Latency}
 use Rattle.qspi_calls.specs.declared.start.Latency.the-variants.{AsRead, Code}
 use Rattle.qspi_calls.specs.Chunks.{Chunk, chunks}
-use Rattle.qspi_calls.specs.Machine.{Action, write, modify, drain, Transfer, opening, Script, ends, perform, repeats, counts, none, exchange, onward}
+use Rattle.qspi_calls.specs.Machine.{write, modify, drain, Transfer, opening, Script, ends, perform, repeats, counts, none, exchange, onward}
 
 -- ---- transfers
 

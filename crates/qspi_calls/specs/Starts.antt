@@ -1,8 +1,7 @@
 -- How the calls start, by counters: refused, ended, or with the first access of their first transfer due. specs/Calls says what each call
 -- does from there.
 use Prim.Native.Nat.{ℕ, _+_, _%_}
-use mathlib.Core.Bool.{Bool, true, false, cond, _||_}
-use mathlib.Core.List.{List}
+use mathlib.Core.Bool.{Bool, true, false}
 use lib.Dec.{ltb, eqb}
 use Rattle.zynq7000.specs.Qspi.{linearWord, configWord}
 use Rattle.zynq7000_hal.specs.Clocks.{baudOf}

@@ -2,7 +2,6 @@
 use Prim.Native.Nat.{ℕ}
 use mathlib.Core.Bool.{Bool, true, false}
 use mathlib.Core.List.{List}
-use Rattle.qspi_script.specs.declared.Status.{Status}
 use Rattle.qspi_operation.specs.declared.Op.{Op}
 use Rattle.qspi_operation.specs.Step.{isGoing}
 use Rattle.qspi_operation.specs.Run.{Run, runOf}

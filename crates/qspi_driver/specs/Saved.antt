@@ -4,28 +4,28 @@ use mathlib.Core.Path.{_≡_}
 use mathlib.Core.List.{List}
 use lib.ListN.{length}
 use Rattle.qspi_script.specs.declared.Status.{Status}
-use Rattle.qspi_operation.specs.declared.Op.{Op}
 use Rattle.qspi_operation.specs.Step.{programmedOf}
 use Rattle.qspi_calls.specs.Machine.{called, countIn}
 use Rattle.qspi_calls.specs.Calls.{writePages}
 use Rattle.qspi_runs.specs.declared.Ran.{Ran}
-use Rattle.qspi_runs.specs.Promise.{ranOf, loggedOf}
+use Rattle.qspi_runs.specs.Promise.{ranOf, loggedOf, handed}
 use Rattle.power_cut.specs.Promise.{Saved}
 use Rattle.qspi_driver.specs.declared.state.Answer.the-variants.{Given, Busy}
 use Rattle.qspi_driver.specs.declared.Driven.{Driven}
 use Rattle.qspi_driver.specs.Driver.{Driver}
 
-abbrev pub ranBy : Status → Op → Ran
-ranBy a o = record { answer = a; used = o .used; replies = o .replies }
+-- how the call ended, with the used counts of the operation that the driver then holds
+abbrev pub handedBack : Status → Driven → Ran
+handedBack a r = handed (record { op = r .driver .state .op; answer = a })
 
 -- answer and used counts, bytes programmed and log are those of the run over lists, and the power-cut statement holds of them
 pub record Saves (a : ℕ) (bs replies log : List ℕ) (r : Driven) (log₁ : List ℕ) : Type 0 where
   pub status : Status
   pub given : r .answer ≡ Given status
-  pub ran : ranBy status (r .driver .state .op) ≡ ranOf (called (writePages a bs) (length log / 2) replies)
+  pub ran : handedBack status r ≡ ranOf (called (writePages a bs) (length log / 2) replies)
   pub counted : programmedOf (r .driver .state .op) ≡ countIn (called (writePages a bs) (length log / 2) replies .state)
   pub logged : log₁ ≡ loggedOf (called (writePages a bs) (length log / 2) replies) log
-  pub cut : Saved a bs (record { ran = ranBy status (r .driver .state .op); programmed = programmedOf (r .driver .state .op) }) log₁
+  pub cut : Saved a bs (record { ran = handedBack status r; programmed = programmedOf (r .driver .state .op) }) log₁
 
 -- while another call is under way nothing is changed
 pub record Untouched (d : Driver) (log : List ℕ) (r : Driven) (log₁ : List ℕ) : Type 0 where

@@ -5,7 +5,6 @@ use mathlib.Core.Bool.{Bool, true, false, cond, _&&_}
 use mathlib.Core.List.{List}
 use lib.Dec.{ltb, leb, eqb}
 use lib.ListN.{length, getD, set}
-use Rattle.zynq7000.specs.Bits.{put, clear}
 use Rattle.qspi_transfer.specs.LowLevel.{sequenceDue, chipSelectHigh, chipSelectLow, started}
 use Rattle.qspi_transfer.specs.Wire.{freshWire, pickWire, wireNext}
 use Rattle.qspi_transfer.specs.declared.Due.{Due}

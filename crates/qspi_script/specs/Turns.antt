@@ -2,7 +2,7 @@
 -- functions.
 use Prim.Native.Nat.{ℕ, _+_, _-_, _%_, _^_, min}
 use mathlib.Core.Bool.{Bool, true, false, cond}
-use lib.Dec.{ltb, leb, eqb}
+use lib.Dec.{ltb, eqb}
 use Rattle.zynq7000.specs.Bits.{isSet, flagValue}
 use Rattle.zedboard_bsp.specs.Words.{topByte}
 use Rattle.zedboard_bsp.specs.Registers.{protected, configuredCr, configuredSr, updateNeeded}

@@ -1,19 +1,27 @@
 -- An access and its two log words, both ways, and when two words are no access. Assumes nothing.
-use Prim.Native.Nat.{ℕ, _+_, _-_, _%_, _<_, _≤_}
+use Prim.Native.Nat.{ℕ, _+_, _-_, _*_, _%_, _<_, _≤_}
 use mathlib.Core.Path.{_≡_, refl, sym, ap, _∙_}
 use mathlib.Core.Bool.{Bool, true, false, cond}
+use mathlib.Core.List.{List, [], _∷_}
 use mathlib.Core.Logic.{_↔_, _⊎_, inl, inr}
 use native.Mathlib.Omega.{arith}
 use lib.Dec.{eqb, ltb}
+use lib.ListN.{length}
 use borrow.Author.Tests.{lt-ltb, le-ltb, eq-eqb, ne-eqb, ltb-true, ltb-false, eqb-true, eqb-false}
 use Rattle.zynq7000.specs.Qspi.{offsetOf}
-use Rattle.zynq7000.specs.Access.{offsetIn, firstWord, valueWord, recordOf, Aligned}
+use Rattle.zynq7000.specs.Access.{offsetIn, firstWord, valueWord, encode, recordOf, Aligned}
 use Rattle.zynq7000.specs.declared.qspi.Access.{Access}
 use Rattle.zynq7000.specs.declared.qspi.Access.the-variants.{Read, Write}
 use Rattle.zynq7000.specs.declared.qspi.Record.{Record}
 use Rattle.zynq7000.specs.declared.qspi.Record.the-variants as record-of
 use Rattle.zynq7000.specs.declared.qspi.Register.{Register}
 use Rattle.zynq7000.specs.declared.qspi.Register.the-variants as register
+
+-- "An access is two 32-bit words"
+pub length-encode : (l : List Access) → length (encode l) ≡ 2 * length l
+unfolding encode
+length-encode [] = refl
+length-encode (a ∷ l) = omega (arith, length-encode l)
 
 -- the registers' offsets are such
 pub register-aligned : (r : Register) → Aligned (offsetOf r)

@@ -1,7 +1,7 @@
 -- An access in a log: document 01, "Log and printer". "An access is two 32-bit words: offset (plus 100 hex for a read), then value."
 use Prim.Native.Nat.{ℕ, _+_, _-_, _%_, _<_}
 use mathlib.Core.Path.{_≡_}
-use mathlib.Core.Bool.{Bool, true, false, cond}
+use mathlib.Core.Bool.{cond}
 use mathlib.Core.List.{List, [], _∷_}
 use lib.Dec.{eqb, ltb}
 use Rattle.zynq7000.specs.declared.qspi.Access.{Access}
