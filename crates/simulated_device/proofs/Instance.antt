@@ -1,0 +1,341 @@
+-- Every run against the simulated device is a trace that the power-cut statement speaks of: each step of the driver logs the access that the
+-- device saw, and a step that makes none leaves the device as it is. Assumes nothing.
+use Prim.Native.Nat.{ℕ, zero, suc, _+_, _-_, _≤_, _<_}
+use mathlib.Core.Path.{_≡_, refl, sym, ap, _∙_, subst}
+use mathlib.Core.Bool.{Bool, true, false, cond, _&&_, true≢false}
+use mathlib.Core.Option.{none, some}
+use mathlib.Core.List.{List, [], _∷_, _++_, append-assoc, append-nil}
+use native.Mathlib.Omega.{arith}
+use lib.Dec.{eqb, ltb, leb}
+use lib.ListN.{length, take, set, length-set}
+use lib.Seq.{take-suc-set}
+use borrow.Author.Tests.{ltb-true, ltb-false, leb-true, le-leb, lt-leb}
+use Rattle.zynq7000.specs.Access.{firstWord, valueWord, encode}
+use Rattle.zynq7000.specs.declared.qspi.Access.{Access}
+use Rattle.zynq7000.specs.declared.qspi.Access.the-variants as access
+use Rattle.qspi_transfer.specs.Wire.{wireNext}
+use Rattle.qspi_transfer.specs.declared.Due.{Due}
+use Rattle.qspi_transfer.specs.declared.Due.the-variants as due
+use Rattle.qspi_transfer.specs.declared.Moved.{Moved}
+use Rattle.qspi_transfer.specs.declared.Moved.the-variants.{On, Over}
+use Rattle.qspi_script.specs.Stages.{frameOf}
+use Rattle.qspi_operation.specs.declared.Op.{Op}
+use Rattle.qspi_operation.specs.declared.Asked.{Asked}
+use Rattle.qspi_operation.specs.declared.Asked.the-variants as asked
+use Rattle.qspi_operation.specs.declared.Reply.{Reply}
+use Rattle.qspi_operation.specs.declared.Reply.the-variants.{Word, Nothing}
+use Rattle.qspi_operation.specs.declared.Verdict.{Verdict}
+use Rattle.qspi_operation.specs.declared.Verdict.the-variants.{Ended, Changed, Full, Dry, Made}
+use Rattle.qspi_operation.specs.Step.{isGoing, accessOf, shown, pickAsked, dueOf, answered, choose, sameLengths, going, verdictOf, act, moved, movedBy, counted, noted, written, stepOf, logOf, bufferOf}
+use Rattle.qspi_operation.proofs.Runs.{kept, buffer-kept}
+use Rattle.qspi_operation.proofs.Verdicts.{makes}
+use Rattle.power_cut.specs.Flash.{Array, Work, programming, erasing, done, erased, programmed, lands, anded, Spares, Flash, flash, AfterCut}
+use Rattle.power_cut.specs.Controller.{AllOut, Trace, still, Rests, rests, flashOf}
+use Rattle.power_cut.specs.Controller as controller
+use Rattle.simulated_device.specs.Replies.{byteAt}
+use Rattle.simulated_device.specs.Simulated.{Sim, simOf, atRest, readOf, writeOf}
+use Rattle.simulated_device.specs.Running.{Turn, simIn, stepped, afterRead, afterWrite, onDue, turnOf, goesOn, turns, simulated, beginning}
+use Rattle.simulated_device.specs.Instance.{Instance}
+use Rattle.simulated_device.specs.declared.Choices.{Choices}
+use Rattle.simulated_device.proofs.Standing.{Holds, resting, working, Fits, Stands, stands, Leads, nowhere, on}
+use Rattle.simulated_device.proofs.Accesses.{reads, Attempt, made, not-made, writes}
+use Rattle.simulated_device.proofs.Kept.{read-choices, write-choices}
+
+-- ---- a log with one access more
+
+encode-snoc : (l : List Access) (a : Access) → encode (l ++ a ∷ []) ≡ encode l ++ firstWord a ∷ valueWord a ∷ []
+unfolding encode
+encode-snoc [] a = refl
+encode-snoc (b ∷ l) a = ap (λ (z : List ℕ). firstWord b ∷ valueWord b ∷ z) (encode-snoc l a)
+
+take-written : (log : List ℕ) (at first v : ℕ) → at + 2 ≤ length log → take (at + 2) (written log at first v) ≡ take at log ++ first ∷ v ∷ []
+take-written log at first v p =
+    let n : at + 2 ≡ suc (suc at) = omega arith in
+    let m : at + 1 ≡ suc at = omega arith in
+    rw (n, m)
+    (take-suc-set (set log at first) (suc at) v (rw (length-set log at first) (omega arith))
+    ∙ (ap (λ (z : List ℕ). z ++ v ∷ []) (take-suc-set log at first (omega arith)) ∙ append-assoc (take at log) (first ∷ []) (v ∷ [])))
+
+-- ---- what a verdict keeps
+
+act-job : (v : Verdict) (o : Op) → act v o .op .job ≡ o .job
+act-job Ended o = refl
+act-job Changed o = refl
+act-job Full o = refl
+act-job Dry o = refl
+act-job (Made first v read) o = go (wireNext (o .wire) (frameOf (o .job) (o .place)) v)
+  where
+    go : (m : Moved) → movedBy m o (o .used + 2) (counted read (o .replies)) .op .job ≡ o .job
+    go (On w) = refl
+    go Over = refl
+
+used-made : (o : Op) (first v : ℕ) (read : Bool) → act (Made first v read) o .op .used ≡ o .used + 2
+used-made o first v read = go (wireNext (o .wire) (frameOf (o .job) (o .place)) v)
+  where
+    go : (m : Moved) → movedBy m o (o .used + 2) (counted read (o .replies)) .op .used ≡ o .used + 2
+    go (On w) = refl
+    go Over = refl
+
+same-used : (v : Verdict) (o : Op) → makes v ≡ false → act v o .op .used ≡ o .used
+same-used Ended o h = refl
+same-used Changed o h = refl
+same-used Full o h = refl
+same-used Dry o h = refl
+same-used (Made first v read) o h = absurd (true≢false h)
+
+same-log : (v : Verdict) (at : ℕ) (log : List ℕ) → makes v ≡ false → noted v at log ≡ log
+same-log Ended at log h = refl
+same-log Changed at log h = refl
+same-log Full at log h = refl
+same-log Dry at log h = refl
+same-log (Made first v read) at log h = absurd (true≢false h)
+
+-- ---- where a run stands
+
+-- the log so far is a trace to where the device stands, and each lent length is that of the start
+pub record Stage (bytes : List ℕ) (base : ℕ) (before : controller.Device) (l : List Access) (t : Turn) : Type 0 where
+  pub is-log : take (t .ran .op .used) (t .log) ≡ encode l
+  pub within : t .ran .op .used ≤ length (t .log)
+  pub leads : Leads before l (simIn t)
+  pub lengths : sameLengths (t .ran .op .job) (length bytes) (length (t .buffer)) (length (t .log)) ≡ true
+  pub based : t .ran .device .choices .base ≡ base
+
+-- the same run with some accesses more
+pub record Further (bytes : List ℕ) (base : ℕ) (before : controller.Device) (t : Turn) : Type 0 where
+  pub log : List Access
+  pub stage : Stage bytes base before log t
+
+module _ (bytes : List ℕ) (base : ℕ) (before : controller.Device) (o : Op) (buffer log : List ℕ) (r : Reply) (s : Sim) where
+  abbrev verdict : Verdict
+  verdict = verdictOf o bytes (length buffer) (length log) r
+
+  abbrev after : Turn
+  after = stepped o bytes buffer log r s
+
+  lengths-kept : sameLengths (o .job) (length bytes) (length buffer) (length log) ≡ true
+      → sameLengths (after .ran .op .job) (length bytes) (length (after .buffer)) (length (after .log)) ≡ true
+  lengths-kept h = rw (act-job verdict o, buffer-kept o bytes buffer (length log) r, kept o bytes (length buffer) log r) h
+
+  -- a step that makes no access
+  no-access : makes verdict ≡ false → (l : List Access) → take (o .used) log ≡ encode l → o .used ≤ length log → Leads before l s
+      → sameLengths (o .job) (length bytes) (length buffer) (length log) ≡ true → s .device .choices .base ≡ base → Stage bytes base before l after
+  no-access m l e p x h b = record {
+    is-log = rw (same-used verdict o m, same-log verdict (o .used) log m) e;
+    within = rw (same-used verdict o m, kept o bytes (length buffer) log r) p;
+    leads = x;
+    lengths = lengths-kept h;
+    based = b;
+  }
+
+  -- a step that makes one
+  an-access : (a : Access) (read : Bool) → verdict ≡ Made (firstWord a) (valueWord a) read → o .used + 2 ≤ length log → (l : List Access) → take (o .used) log ≡ encode l
+      → Leads before (l ++ a ∷ []) s → sameLengths (o .job) (length bytes) (length buffer) (length log) ≡ true → s .device .choices .base ≡ base
+      → Stage bytes base before (l ++ a ∷ []) after
+  an-access a read m p l e x h b =
+      let u : after .ran .op .used ≡ o .used + 2 = ap (λ (z : Verdict). act z o .op .used) m ∙ used-made o (firstWord a) (valueWord a) read in
+      let w : after .log ≡ written log (o .used) (firstWord a) (valueWord a) = ap (λ (z : Verdict). noted z (o .used) log) m in
+      record {
+        is-log = ap (λ (z : ℕ). take z (after .log)) u ∙ (ap (take (o .used + 2)) w ∙ (take-written log (o .used) (firstWord a) (valueWord a) p ∙ (ap (λ (z : List ℕ). z ++ firstWord a ∷ valueWord a ∷ []) e ∙ sym (encode-snoc l a))));
+        within = rw (u, kept o bytes (length buffer) log r) p;
+        leads = x;
+        lengths = lengths-kept h;
+        based = b;
+      }
+
+-- ---- what is due
+
+data Knows (o : Op) (bytes : List ℕ) : Asked → Type 0 where
+  reading : {x : ℕ} → isGoing (o .status) ≡ true → accessOf (o .job) (o .place) (o .wire) bytes ≡ due.Read x → Knows o bytes (asked.Read x)
+  writing : {x v : ℕ} → isGoing (o .status) ≡ true → accessOf (o .job) (o .place) (o .wire) bytes ≡ due.Write x v → Knows o bytes (asked.Write x v)
+  ended : isGoing (o .status) ≡ false → Knows o bytes asked.Nothing
+  changed : eqb (length bytes) (o .job .lent .«data») ≡ false → Knows o bytes asked.LentLengthChanged
+
+knows : (o : Op) (bytes : List ℕ) → Knows o bytes (dueOf o bytes)
+knows o bytes = go (isGoing (o .status)) (eqb (length bytes) (o .job .lent .«data»)) (accessOf (o .job) (o .place) (o .wire) bytes) refl refl refl
+  where
+    go : (g l : Bool) (d : Due) → isGoing (o .status) ≡ g → eqb (length bytes) (o .job .lent .«data») ≡ l → accessOf (o .job) (o .place) (o .wire) bytes ≡ d
+        → Knows o bytes (pickAsked g (pickAsked l (shown d) asked.LentLengthChanged) asked.Nothing)
+    go true true (due.Read x) e f h = reading e h
+    go true true (due.Write x v) e f h = writing e h
+    go true false d e f h = changed f
+    go false l d e f h = ended e
+
+-- a step without room makes no access
+no-room : (g l : Bool) (x : Verdict) → makes (choose g (choose l (choose false x Full) Changed) Ended) ≡ false
+no-room true true x = refl
+no-room true false x = refl
+no-room false l x = refl
+
+first-of : (a b : Bool) → (a && b) ≡ true → a ≡ true
+first-of true b h = refl
+first-of false b h = absurd (true≢false (sym h))
+
+module _ (bytes : List ℕ) (base : ℕ) (before : controller.Device) (replies : ℕ) (t : Turn) (l : List Access) (st : Stage bytes base before l t) where
+  abbrev o : Op
+  o = t .ran .op
+
+  -- the driver makes no access, and the device stands as it does
+  idles : (r : Reply) → makes (verdictOf o bytes (length (t .buffer)) (length (t .log)) r) ≡ false → Further bytes base before (stepped o bytes (t .buffer) (t .log) r (simIn t))
+  idles r m =
+      record { log = l; stage = no-access bytes base before o (t .buffer) (t .log) r (simIn t) m l (st .is-log) (st .within) (st .leads) (st .lengths) (st .based) }
+
+  full : ltb (length (t .log) - o .used) 2 ≡ true → Further bytes base before (stepped o bytes (t .buffer) (t .log) Nothing (simIn t))
+  full h =
+      let p = ltb-true (length (t .log) - o .used) 2 h in
+      let n : leb (o .used + 2) (length (t .log)) ≡ false = lt-leb (o .used + 2) (length (t .log)) (omega (arith, st .within)) in
+      idles Nothing
+      (rw n (no-room (isGoing (o .status)) (sameLengths (o .job) (length bytes) (length (t .buffer)) (length (t .log))) (answered (accessOf (o .job) (o .place) (o .wire) bytes) Nothing)))
+
+  module _ (room : o .used + 2 ≤ length (t .log)) where
+    -- with room and the lengths of the start, what is due decides
+    decided : (r : Reply) {d : Due} → isGoing (o .status) ≡ true → accessOf (o .job) (o .place) (o .wire) bytes ≡ d
+        → verdictOf o bytes (length (t .buffer)) (length (t .log)) r ≡ answered d r
+    decided r g h = rw (g, st .lengths, le-leb (o .used + 2) (length (t .log)) room, h)
+
+    ended-idles : isGoing (o .status) ≡ false → makes (verdictOf o bytes (length (t .buffer)) (length (t .log)) Nothing) ≡ false
+    ended-idles g = rw g
+
+    read-turn : (x : ℕ) → isGoing (o .status) ≡ true → accessOf (o .job) (o .place) (o .wire) bytes ≡ due.Read x → (b : Bool)
+        → Further bytes base before (cond b (stepped o bytes (t .buffer) (t .log) (Word (readOf (simIn t) x .value)) (afterRead (simIn t) x)) (stepped o bytes (t .buffer) (t .log) Nothing (simIn t)))
+    read-turn x g h true =
+        let v = readOf (simIn t) x .value in
+        let y = on (st .leads) (reads (simIn t) (st .leads .after) (st .leads .standing) x) in
+        record {
+          log = l ++ access.Read x v ∷ [];
+          stage = an-access bytes base before o (t .buffer) (t .log) (Word v) (afterRead (simIn t) x) (access.Read x v) true (decided (Word v) g h) room l (st .is-log) y (st .lengths) (ap (λ (c : Choices). c .base) (read-choices (simIn t) x) ∙ st .based);
+        }
+    read-turn x g h false = idles Nothing (ap makes (decided Nothing g h))
+
+    write-turn : (x v : ℕ) → isGoing (o .status) ≡ true → accessOf (o .job) (o .place) (o .wire) bytes ≡ due.Write x v
+        → Further bytes base before (onDue (asked.Write x v) o (t .ran .answer) replies bytes (t .buffer) (t .log) (simIn t))
+    write-turn x v g h = go (writes (simIn t) (st .leads .after) (st .leads .standing) x v)
+      where
+        y : Sim
+        y = afterWrite (writeOf (simIn t) x v)
+
+        based₁ : writeOf (simIn t) x v .written .device .choices .base ≡ base
+        based₁ = ap (λ (c : Choices). c .base) (write-choices (simIn t) x v) ∙ st .based
+
+        go : Attempt (st .leads .after) (access.Write x v) (writeOf (simIn t) x v)
+            → Further bytes base before (onDue (asked.Write x v) o (t .ran .answer) replies bytes (t .buffer) (t .log) (simIn t))
+        go (made n z) =
+            rw n
+            (record {
+              log = l ++ access.Write x v ∷ [];
+              stage = an-access bytes base before o (t .buffer) (t .log) Nothing (afterWrite (writeOf (simIn t) x v)) (access.Write x v) false (decided Nothing g h) room l (st .is-log) (on (st .leads) z) (st .lengths) based₁;
+            })
+        go (not-made n z) =
+            rw n
+            (record {
+              log = l;
+              stage = record { is-log = st .is-log; within = st .within; leads = subst (λ (k : List Access). Leads before k (afterWrite (writeOf (simIn t) x v))) (append-nil l) (on (st .leads) z); lengths = st .lengths; based = based₁ };
+            })
+
+    due-turn : (a : Asked) → Knows o bytes a → Further bytes base before (onDue a o (t .ran .answer) replies bytes (t .buffer) (t .log) (simIn t))
+    due-turn a (reading {x} g h) = read-turn x g h (ltb (o .replies) replies)
+    due-turn a (writing {x} {v} g h) = write-turn x v g h
+    due-turn a (ended g) = idles Nothing (ended-idles g)
+    due-turn a (changed h) = absurd (true≢false (sym (first-of (eqb (length bytes) (o .job .lent .«data»)) _ (st .lengths)) ∙ h))
+
+  turn-on : Further bytes base before (turnOf replies bytes t)
+  turn-on = go (ltb (length (t .log) - o .used) 2) refl
+    where
+      go : (b : Bool) → ltb (length (t .log) - o .used) 2 ≡ b
+          → Further bytes base before (cond b (stepped o bytes (t .buffer) (t .log) Nothing (simIn t)) (onDue (dueOf o bytes) o (t .ran .answer) replies bytes (t .buffer) (t .log) (simIn t)))
+      go true h = full h
+      go false h = let p = ltb-false (length (t .log) - o .used) 2 h in due-turn (omega arith) (dueOf o bytes) (knows o bytes)
+
+-- ---- a run
+
+all-turns : (bytes : List ℕ) (base : ℕ) (before : controller.Device) (replies n : ℕ) (t : Turn) → Further bytes base before t → Further bytes base before (turns n replies bytes t)
+unfolding turns
+all-turns bytes base before replies zero t f = f
+all-turns bytes base before replies (suc n) t f =
+    go (goesOn (t .ran)) (all-turns bytes base before replies n (turnOf replies bytes t) (turn-on bytes base before replies t (f .log) (f .stage)))
+  where
+    go : (b : Bool) → Further bytes base before (turns n replies bytes (turnOf replies bytes t))
+        → Further bytes base before (cond b (turns n replies bytes (turnOf replies bytes t)) t)
+    go true more = more
+    go false more = f
+
+-- ---- what a cut leaves
+
+spared : (w : Work) (m : Array) (x : ℕ) → Spares w x → done w m x ≡ m x
+unfolding programmed erased
+spared (programming c) m x h = rw h
+spared (erasing a n) m x h = go (leb a x) (ltb x (a + n)) refl refl
+  where
+    go : (b c : Bool) → leb a x ≡ b → ltb x (a + n) ≡ c → cond (b && c) 0xFF (m x) ≡ m x
+    go true true e f = absurd (h (leb-true a x e, ltb-true x (a + n) f))
+    go true false e f = refl
+    go false c e f = refl
+
+may-leave : (s : Sim) (e : controller.Device) → Stands s e → AfterCut (flashOf e) (λ (x : ℕ). byteAt (s .array) (s .device .choices .base) x)
+unfolding AfterCut
+may-leave s e (stands h (resting z old)) = λ x. sym (old x)
+may-leave s e (stands h (working {m} {w} z old)) = λ x free. sym (old x) ∙ spared w m x free
+
+-- ---- from the start
+
+module _ (ch : Choices) (sent received array : List ℕ) where
+  abbrev resting-sim : Sim
+  resting-sim = simOf (atRest ch) sent received array
+
+  start : controller.Device
+  start = controller.device 0x8008_C4C1 [] [] [] [] (flash (λ (x : ℕ). byteAt array (ch .base) x) false none)
+
+  stands-at-rest : Stands resting-sim start
+  unfolding start
+  stands-at-rest =
+      stands {ws = []} {t = []} {u = []}
+      (record { outs = refl; freed = refl; all = refl; bytes = refl; room = omega arith; order = omega arith; held = omega arith; rest = λ z. (refl, refl) })
+      (resting refl (λ x. refl))
+
+  rests-so : Rests (λ (x : ℕ). byteAt array (ch .base) x) start
+  unfolding start
+  rests-so = rests refl refl refl refl
+
+  -- of a run from the start
+  ran : (bytes : List ℕ) (t : Turn) → Further bytes (ch .base) start t → Instance (ch .base) array t
+  ran bytes t f = record {
+    accesses = f .log;
+    is-log = f .stage .is-log;
+    before = start;
+    after = f .stage .leads .after;
+    rests = rests-so;
+    trace = f .stage .leads .trace;
+    left = subst (λ (b : ℕ). AfterCut (flashOf (f .stage .leads .after)) (λ (x : ℕ). byteAt (t .array) b x)) (f .stage .based) (may-leave (simIn t) (f .stage .leads .after) (f .stage .leads .standing));
+  }
+
+  -- another length is lent than at the start: no access is made
+  no-lengths : (g f : Bool) (x : Verdict) → makes (choose g (choose false (choose f x Full) Changed) Ended) ≡ false
+  no-lengths true f x = refl
+  no-lengths false f x = refl
+
+  -- every run is an instance
+  pub instance : (o : Op) (replies : ℕ) (bytes buffer log : List ℕ) → o .used ≡ 0
+      → Instance (ch .base) array (simulated replies bytes (beginning o (atRest ch) buffer log sent received array))
+  unfolding simulated encode
+  instance o replies bytes buffer log u = go (sameLengths (o .job) (length bytes) (length buffer) (length log)) refl
+    where
+      first : Turn
+      first = beginning o (atRest ch) buffer log sent received array
+
+      go : (b : Bool) → sameLengths (o .job) (length bytes) (length buffer) (length log) ≡ b
+          → Instance (ch .base) array (cond b (turns (suc (length log)) replies bytes first) (stepped o bytes buffer log Nothing (simIn first)))
+      go true h =
+          let stage : Stage bytes (ch .base) start [] first = record { is-log = rw u; within = rw u (omega arith); leads = nowhere stands-at-rest; lengths = h; based = refl } in
+          ran bytes _ (all-turns bytes (ch .base) start replies (suc (length log)) first (record { log = []; stage = stage }))
+      go false h =
+          let v = verdictOf o bytes (length buffer) (length log) Nothing in
+          let m : makes (verdictOf o bytes (length buffer) (length log) Nothing) ≡ false =
+          rw h (no-lengths (isGoing (o .status)) (leb (o .used + 2) (length log)) (answered (accessOf (o .job) (o .place) (o .wire) bytes) Nothing)) in
+          record {
+            accesses = [];
+            is-log = ap (λ (n : ℕ). take n (noted v (o .used) log)) (same-used v o m ∙ u);
+            before = start;
+            after = start;
+            rests = rests-so;
+            trace = still;
+            left = may-leave resting-sim start stands-at-rest;
+          }

@@ -1,0 +1,9 @@
+pub mod Steps
+pub mod Turns
+pub mod Standing
+pub mod WordsOut
+pub mod Worked
+pub mod Executing
+pub mod Accesses
+pub mod Kept
+pub mod Instance

@@ -1,0 +1,4 @@
+pub mod Replies
+pub mod Simulated
+pub mod Running
+pub mod Instance

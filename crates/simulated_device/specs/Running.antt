@@ -1,0 +1,86 @@
+-- A call of the driver against the simulated device: each step is lent what the device gives. The log is the driver's own.
+use Prim.Native.Nat.{ℕ, zero, suc, _-_}
+use mathlib.Core.Bool.{Bool, true, false, cond}
+use mathlib.Core.List.{List}
+use lib.Dec.{ltb}
+use lib.ListN.{length}
+use Rattle.qspi_script.specs.declared.Status.{Status}
+use Rattle.qspi_operation.specs.declared.Op.{Op}
+use Rattle.qspi_operation.specs.declared.Asked.{Asked}
+use Rattle.qspi_operation.specs.declared.Asked.the-variants as asked
+use Rattle.qspi_operation.specs.declared.Reply.{Reply}
+use Rattle.qspi_operation.specs.declared.Reply.the-variants.{Word, Nothing}
+use Rattle.qspi_operation.specs.Step.{isGoing, dueOf, stepOf, logOf, bufferOf, sameLengths}
+use Rattle.simulated_device.specs.Simulated.{Sim, simOf, passed, readOf, After, writeOf}
+use Rattle.simulated_device.specs.declared.Device.{Device}
+use Rattle.simulated_device.specs.declared.run.Ran.{Ran}
+
+-- the memory that is lent to the driver, and the device with its own
+pub record Turn : Type 0 where
+  pub ran : Ran
+  pub buffer : List ℕ
+  pub log : List ℕ
+  pub sent : List ℕ
+  pub received : List ℕ
+  pub array : List ℕ
+
+abbrev pub ranOf : Op → Status → Device → Bool → Ran
+ranOf o a d refused = record { op = o; answer = a; device = d; refused = refused }
+
+abbrev pub turnAt : Ran → List ℕ → List ℕ → Sim → Turn
+turnAt r buffer log s = record { ran = r; buffer = buffer; log = log; sent = s .sent; received = s .received; array = s .array }
+
+abbrev pub simIn : Turn → Sim
+simIn t = simOf (t .ran .device) (t .sent) (t .received) (t .array)
+
+-- the driver steps, while the device stands so
+abbrev pub stepped : Op → List ℕ → List ℕ → List ℕ → Reply → Sim → Turn
+stepped o bytes buffer log r s =
+    turnAt
+    (ranOf (stepOf o bytes (length buffer) (length log) r .op) (stepOf o bytes (length buffer) (length log) r .answer) (s .device) false)
+    (bufferOf o bytes buffer (length log) r)
+    (logOf o bytes (length buffer) log r)
+    s
+
+abbrev pub afterRead : Sim → ℕ → Sim
+afterRead s o = simOf (readOf s o .device) (s .sent) (passed s .received) (s .array)
+
+abbrev pub afterWrite : After → Sim
+afterWrite x = simOf (x .written .device) (x .sent) (x .received) (x .array)
+
+-- by the access that is due: at most so many reads get a reply, and a write that the device refuses is not made
+abbrev pub onDue : Asked → Op → Status → ℕ → List ℕ → List ℕ → List ℕ → Sim → Turn
+onDue (asked.Read o) op a replies bytes buffer log s =
+    cond (ltb (op .replies) replies) (stepped op bytes buffer log (Word (readOf s o .value)) (afterRead s o)) (stepped op bytes buffer log Nothing s)
+onDue (asked.Write o v) op a replies bytes buffer log s =
+    cond (writeOf s o v .written .refused)
+    (turnAt (ranOf op a (writeOf s o v .written .device) true) buffer log (afterWrite (writeOf s o v)))
+    (stepped op bytes buffer log Nothing (afterWrite (writeOf s o v)))
+onDue asked.Nothing op a replies bytes buffer log s = stepped op bytes buffer log Nothing s
+onDue asked.LentLengthChanged op a replies bytes buffer log s = stepped op bytes buffer log Nothing s
+
+-- a step; without room it is 24, and the device sees nothing of it
+abbrev pub turnOf : ℕ → List ℕ → Turn → Turn
+turnOf replies bytes t =
+    cond (ltb (length (t .log) - t .ran .op .used) 2) (stepped (t .ran .op) bytes (t .buffer) (t .log) Nothing (simIn t))
+    (onDue (dueOf (t .ran .op) bytes) (t .ran .op) (t .ran .answer) replies bytes (t .buffer) (t .log) (simIn t))
+
+abbrev pub goesOn : Ran → Bool
+goesOn r = cond (r .refused) false (isGoing (r .answer))
+
+-- at most n steps
+unfoldable pub turns : ℕ → ℕ → List ℕ → Turn → Turn
+turns zero replies bytes t = t
+turns (suc n) replies bytes t = cond (goesOn (t .ran)) (turns n replies bytes (turnOf replies bytes t)) t
+
+-- to the end: each step but the last takes two words of log. Where another length is lent than at the start, one step answers 25.
+unfoldable pub simulated : ℕ → List ℕ → Turn → Turn
+unfolding turns
+simulated replies bytes t =
+    cond (sameLengths (t .ran .op .job) (length bytes) (length (t .buffer)) (length (t .log)))
+    (turns (suc (length (t .log))) replies bytes t)
+    (stepped (t .ran .op) bytes (t .buffer) (t .log) Nothing (simIn t))
+
+abbrev pub beginning : Op → Device → List ℕ → List ℕ → List ℕ → List ℕ → List ℕ → Turn
+beginning o d buffer log sent received array =
+    record { ran = ranOf o (o .status) d false; buffer = buffer; log = log; sent = sent; received = received; array = array }
