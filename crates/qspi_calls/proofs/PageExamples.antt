@@ -22,7 +22,7 @@ unfolding chunks chunksIn
 among-chunks = here
 
 -- config as after `initialize` and `enable_io_mode`, once a transfer has closed
-abbrev prompt : Prompt
+abbrev pub prompt : Prompt
 prompt = record { idle = 0; ready = 0x10; opens = 0x8008C4C1; starts = 0x8008C0C1; closes = 0x8008C0C1; is-idle = refl; is-ready = refl }
 
 pub line-log : PagesLog (chunks 0x000100 line) ((promptly enabling prompt (0 ∷ []) ++ (promptly (programming 0x000100 line) prompt (0 ∷ []) ++ promptly statusReading prompt (0 ∷ []))) ++ [])

@@ -32,7 +32,7 @@ use Rattle.qspi_calls.proofs.Whole.{Starts}
 
 -- ---- the chunks
 
-chunks-cons : (f a : ℕ) (l : List ℕ) → 0 < length l → chunksIn (suc f) a l ≡ record { address = a; bytes = take 128 l } ∷ chunksIn f (a + 128) (drop 128 l)
+pub chunks-cons : (f a : ℕ) (l : List ℕ) → 0 < length l → chunksIn (suc f) a l ≡ record { address = a; bytes = take 128 l } ∷ chunksIn f (a + 128) (drop 128 l)
 unfolding chunksIn
 chunks-cons f a [] h = absurd (omega arith)
 chunks-cons f a (b ∷ l) h = refl

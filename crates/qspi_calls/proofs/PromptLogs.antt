@@ -134,7 +134,7 @@ module _ (bit : ℕ) (failure : Status) (x : Transfer) (then : Script) (n : ℕ)
   abbrev settled : List ℕ → Script
   settled q = machine.onward (not (isSet bit (top q)) && isSet 0 (top q)) (call.settling bit failure then) (machine.onward (isSet bit (top q)) (call.failing failure) then)
 
-  works : length rs ≡ x .replies → isSet bit (top (s ∷ [])) ≡ false → isSet 0 (top (s ∷ [])) ≡ false → Plays (begin (call.working bit failure x then) [] n) (working x a b c r rs s) (begin then [] n)
+  pub works : length rs ≡ x .replies → isSet bit (top (s ∷ [])) ≡ false → isSet 0 (top (s ∷ [])) ≡ false → Plays (begin (call.working bit failure x then) [] n) (working x a b c r rs s) (begin then [] n)
   works e f g =
       let p : Plays (begin (call.settling bit failure then) [] n) (promptly statusReading c (s ∷ [])) (begin (settled (s ∷ [])) [] n) = transfer c machine.none settled [] n statusReading (s ∷ []) refl in
       let q : Plays (begin (call.settling bit failure then) [] n) (promptly statusReading c (s ∷ [])) (begin then [] n) = rw (f, g) at p in
