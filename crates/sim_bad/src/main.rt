@@ -1,0 +1,4 @@
+// The simulation on a bad request, which is refused in one line.
+fn main() {
+    sim_console::simulate_input();
+}

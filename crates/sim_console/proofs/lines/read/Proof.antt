@@ -1,0 +1,77 @@
+-- `sim_console::lines::read` is safe and ends: each line takes a byte at least, so there are no more lines than bytes. Assumes nothing.
+use Prim.Native.Nat.{_+_, _-_, _≤_}
+use mathlib.Core.Path.{_≡_}
+use lib.ListN.{length}
+use borrow.Author.Needs.{needs}
+use native.Mathlib.Omega.{arith}
+use Rattle.sim_console.proofs.lines.read.Statement.{statement}
+use Rattle.sim_console.proofs.lines.read.Tie as tie
+
+abbrev Inv-loop : tie.InvT-loop
+Inv-loop input part data₀ array₀ x₀ at₀ line₀ «data» array x at line = (line ≤ at) × ((at ≤ length input + 1) × ((length «data» ≡ length data₀) × (length array ≡ length array₀)))
+
+abbrev μ-loop : tie.MeasureT-loop
+μ-loop input part data₀ array₀ x₀ at₀ line₀ «data» array x at line = length input + 1 - at
+
+loop-holds : tie.Need-loop-holds Inv-loop μ-loop
+loop-holds c = search needs
+
+past-requires : tie.Need-past-requires Inv-loop μ-loop
+past-requires c κs = omega arith
+
+add-line : tie.Need-add-line Inv-loop μ-loop
+add-line c = omega arith
+
+sub-without-cr : tie.Need-sub-without-cr Inv-loop μ-loop
+sub-without-cr c = omega arith
+
+part-without-cr-start : tie.Need-part-without-cr-start Inv-loop μ-loop
+part-without-cr-start c = omega arith
+
+part-without-cr-end : tie.Need-part-without-cr-end Inv-loop μ-loop
+part-without-cr-end c = omega arith
+
+without-cr-requires : tie.Need-without-cr-requires Inv-loop μ-loop
+without-cr-requires c κs = tt
+
+with-line-requires : tie.Need-with-line-requires Inv-loop μ-loop
+with-line-requires c κs = tt
+
+add-at : tie.Need-add-at Inv-loop μ-loop
+add-at c = omega arith
+
+loop-less : tie.Need-loop-less Inv-loop μ-loop
+loop-less c = omega arith
+
+loop-again : tie.Need-loop-again Inv-loop μ-loop
+loop-again c = search needs
+
+same-length : tie.Need-same-length Inv-loop μ-loop
+same-length c = omega arith
+
+same-length-2 : tie.Need-same-length-2 Inv-loop μ-loop
+same-length-2 c = omega arith
+
+returns : tie.Need-returns Inv-loop μ-loop
+returns c = tt
+
+pub read-spec : {M : Type 1} → statement M
+read-spec =
+    tie.close
+    (tie.spec
+    Inv-loop
+    μ-loop
+    loop-holds
+    past-requires
+    add-line
+    sub-without-cr
+    part-without-cr-start
+    part-without-cr-end
+    without-cr-requires
+    with-line-requires
+    add-at
+    loop-less
+    loop-again
+    same-length
+    same-length-2
+    returns)

@@ -1,0 +1,68 @@
+// How a run ended, as far as it is printed.
+use qspi_operation::Op;
+use qspi_script::Stage;
+use qspi_script::Status;
+use qspi_transfer::Phase;
+use simulated_device::run::Ran;
+
+pub struct Ended {
+    pub answer: Status,
+    pub used: usize,
+    pub replies: usize,
+    pub programmed: usize,
+    // The device could not go on.
+    pub refused: bool,
+    // The erase command is out, and the status loop has not ended.
+    pub erasing: bool,
+    // The last three replies.
+    pub older: u32,
+    pub old: u32,
+    pub last: u32,
+}
+
+pub fn is_done(status: Status) -> bool {
+    if let Status::Done = status {
+        true
+    } else {
+        false
+    }
+}
+
+fn is_last(phase: Phase) -> bool {
+    if let Phase::Disable = phase {
+        true
+    } else {
+        false
+    }
+}
+
+// Whether chip select has risen after the erase command. It is told by where the operation stands,
+// since the observer of the log watches page programs.
+fn is_erasing(op: Op) -> bool {
+    let place = op.place;
+    let wire = op.wire;
+    let stage = place.stage;
+    let phase = wire.phase;
+    match stage {
+        Stage::Erase => is_last(phase),
+        Stage::Poll => true,
+        _ => false,
+    }
+}
+
+pub fn of_run(ran: Ran) -> Ended {
+    let op = ran.op;
+    let wire = op.wire;
+    let answer = ran.answer;
+    Ended {
+        answer,
+        used: op.used,
+        replies: op.replies,
+        programmed: qspi_operation::programmed(op),
+        refused: ran.refused,
+        erasing: is_erasing(op),
+        older: wire.older,
+        old: wire.old,
+        last: wire.last,
+    }
+}

@@ -1,0 +1,192 @@
+// One call of the driver against the simulated controller and flash, as a request on standard input
+// says (`request`): the run is printed (`report`), or the one line that says what is wrong (`fault`).
+ghost use Prim.Native.Nat.{_≤_};
+use crate::ended::Ended;
+use crate::fault::Fault;
+use crate::fault::Item;
+use crate::fault::Wrong;
+use crate::lines::ACCESSES;
+use crate::lines::DATA;
+use crate::request::Cut;
+use crate::request::PART;
+use crate::request::Request;
+use crate::words::least;
+use libc::STDIN_FILENO;
+use simulated_device::Choices;
+
+mod calls;
+mod ended;
+mod fault;
+mod items;
+mod lines;
+mod numbers;
+mod report;
+mod request;
+mod text;
+mod words;
+
+const INPUT: usize = 32768;
+
+const WORDS: usize = 32768;
+
+pub fn simulate_input() {
+    let mut input = [0u8; INPUT];
+    let len = io::read_full(STDIN_FILENO, &mut input);
+    if len < INPUT {
+        requested(&input[..len]);
+    } else {
+        fault::print(Fault::new(Wrong::LongInput, Item::Unknown, last_line(&input)));
+    }
+}
+
+// The number of the last line.
+fn last_line(input: &[u8]) -> usize {
+    let mut count: usize = 1;
+    let mut i = 0;
+    while i < input.len() {
+        if input[i] == b'\n' {
+            count = std::num::wrapping_add_usize(count, 1);
+        }
+        i += 1;
+    }
+    count
+}
+
+fn requested(input: &[u8]) {
+    let mut data = [0u8; DATA];
+    let items = request::read(input, &mut data);
+    let fault = items.fault;
+    if fault.is_there() {
+        return fault::print(fault);
+    }
+    let mut array = [0xFFu8; PART];
+    let items = request::hold(items, input, &mut array);
+    let fault = items.fault;
+    if fault.is_there() {
+        return fault::print(fault);
+    }
+    let request = request::request_of(items);
+    let len = least(request.data, DATA);
+    simulate(request, &data[0..len], &mut array);
+}
+
+fn copy(from: &[u8], to: &mut [u8]) {
+    let mut i = 0;
+    while i < to.len() {
+        to[i] = words::byte_at(from, i);
+        i += 1;
+    }
+}
+
+// The call is lent its memory; what the array held is kept beside it.
+fn simulate(request: Request, data: &[u8], array: &mut [u8]) {
+    let mut before = [0u8; PART];
+    let mut buffer = [0u8; DATA];
+    let mut log = [0u32; WORDS];
+    copy(array, &mut before);
+    let len = least(request.length, DATA);
+    lent(request, data, &mut buffer[0..len], &mut log, &before, array);
+}
+
+fn lent(
+    request: Request,
+    data: &[u8],
+    buffer: &mut [u8],
+    log: &mut [u32],
+    before: &[u8],
+    array: &mut [u8],
+) {
+    let cut = request.cut;
+    let room = request.log;
+    match cut {
+        Cut::Never => whole(request, room, data, buffer, log, before, array),
+        Cut::After(k) => whole(request, least(k, room), data, buffer, log, before, array),
+        Cut::Every => cuts(request, room, data, buffer, log, before, array),
+    }
+}
+
+// The words of so many accesses.
+fn words_of(accesses: usize, log: usize) -> usize
+    ensures within { λ r. ⌜ r ≤ log ⌝ }
+{
+    least(least(accesses, ACCESSES) * 2, log)
+}
+
+fn run(
+    request: Request,
+    data: &[u8],
+    buffer: &mut [u8],
+    log: &mut [u32],
+    array: &mut [u8],
+) -> Ended {
+    let mut sent = [0u8; 256];
+    let mut received = [0u32; 128];
+    let op = calls::begin(request, data.len(), buffer.len(), log.len());
+    let device = simulated_device::at_rest(Choices {
+        busy_reads: request.busy,
+        gap: request.gap,
+        base: request::base_of(request.address),
+    });
+    ended::of_run(simulated_device::run::run(
+        op,
+        device,
+        request.replies,
+        data,
+        buffer,
+        log,
+        &mut sent,
+        &mut received,
+        array,
+    ))
+}
+
+// A run with room for so many accesses: a cut after K accesses is a run that had room for K.
+fn whole(
+    request: Request,
+    room: usize,
+    data: &[u8],
+    buffer: &mut [u8],
+    log: &mut [u32],
+    before: &[u8],
+    array: &mut [u8],
+) {
+    let end = words_of(room, log.len());
+    let ended = run(request, data, buffer, &mut log[0..end], array);
+    report::whole(request, ended, log, buffer, before, array);
+}
+
+// The whole run, for how many accesses it makes; then every cut of it.
+fn cuts(
+    request: Request,
+    room: usize,
+    data: &[u8],
+    buffer: &mut [u8],
+    log: &mut [u32],
+    before: &[u8],
+    array: &mut [u8],
+) {
+    let end = words_of(room, log.len());
+    let ended = run(request, data, buffer, &mut log[0..end], array);
+    let points = std::num::wrapping_add_usize(ended.used / 2, 1);
+    let mut k = 0;
+    while k < points {
+        cut_at(request, k, data, buffer, log, before, array);
+        k += 1;
+    }
+    report::refused(ended);
+}
+
+fn cut_at(
+    request: Request,
+    point: usize,
+    data: &[u8],
+    buffer: &mut [u8],
+    log: &mut [u32],
+    before: &[u8],
+    array: &mut [u8],
+) {
+    copy(before, array);
+    let end = words_of(point, log.len());
+    let ended = run(request, data, buffer, &mut log[0..end], array);
+    report::cut_line(request, ended, log, before, array);
+}

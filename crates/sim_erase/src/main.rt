@@ -1,0 +1,4 @@
+// The simulation of a sector erase.
+fn main() {
+    sim_console::simulate_input();
+}
