@@ -79,38 +79,59 @@ fn name(item: Item) {
         Item::Data => text(b"data: "),
         Item::Length => text(b"length: "),
         Item::Dummy => text(b"dummy: "),
+        Item::Holds => text(b"holds: "),
+        _ => name_of_choice(item),
+    }
+}
+
+// The items that say how device and run behave.
+fn name_of_choice(item: Item) {
+    match item {
         Item::Busy => text(b"busy: "),
         Item::Gap => text(b"gap: "),
         Item::Log => text(b"log: "),
         Item::Replies => text(b"replies: "),
         Item::Cut => text(b"cut: "),
-        Item::Holds => text(b"holds: "),
-        Item::Unknown => text(b""),
+        _ => text(b""),
     }
 }
 
 fn words(wrong: Wrong) {
     match wrong {
-        Wrong::Nothing => text(b""),
         Wrong::LongInput => text(b"the input has more than 32767 bytes"),
         Wrong::LongLine => text(b"the line has more than 1024 bytes"),
         Wrong::UnknownItem => text(b"unknown item"),
         Wrong::Again => text(b"given a second time"),
         Wrong::NoValue => text(b"the value is missing"),
         Wrong::MoreWords => text(b"more than one value"),
+        _ => words_of_value(wrong),
+    }
+}
+
+// A value that the item does not take.
+fn words_of_value(wrong: Wrong) {
+    match wrong {
         Wrong::UnknownCall => text(b"unknown call"),
         Wrong::NotHex => text(b"not a hex number"),
         Wrong::NotDecimal => text(b"not a decimal number"),
         Wrong::OddDigits => text(b"an odd number of hex digits"),
         Wrong::LongAddress => text(b"more than 8 hex digits"),
+        Wrong::NeitherYesNorNo => text(b"neither yes nor no"),
+        _ => words_of_whole(wrong),
+    }
+}
+
+// Too much, or what does not go with the call.
+fn words_of_whole(wrong: Wrong) {
+    match wrong {
         Wrong::TooLarge(most) => decimal(b"number too large, at most ", most),
         Wrong::TooMuchData => text(b"more than 4096 bytes of data"),
-        Wrong::NeitherYesNorNo => text(b"neither yes nor no"),
         Wrong::NoCall => text(b"no call is named"),
         Wrong::Needed => text(b"missing, this call needs it"),
         Wrong::NotTaken => text(b"this call does not take it"),
         Wrong::Outside => text(
             b"outside of the 131072 bytes from the start of the call's sector on",
         ),
+        _ => text(b""),
     }
 }

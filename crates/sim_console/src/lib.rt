@@ -33,7 +33,7 @@ pub fn simulate_input() {
     let mut input = [0u8; INPUT];
     let len = io::read_full(STDIN_FILENO, &mut input);
     if len < INPUT {
-        requested(&input[..len]);
+        simulate_text(&input[..len]);
     } else {
         fault::print(Fault::new(Wrong::LongInput, Item::Unknown, last_line(&input)));
     }
@@ -52,7 +52,8 @@ fn last_line(input: &[u8]) -> usize {
     count
 }
 
-fn requested(input: &[u8]) {
+// A request that is at hand as text.
+pub fn simulate_text(input: &[u8]) {
     let mut data = [0u8; DATA];
     let items = request::read(input, &mut data);
     let fault = items.fault;

@@ -64,6 +64,17 @@ fn answer(status: Status) {
     match status {
         Status::Going => text(b" Going\n"),
         Status::Done => text(b" Done\n"),
+        Status::EraseErrorBitSet => text(b" EraseErrorBitSet\n"),
+        Status::ProgrammingErrorBitSet => text(b" ProgrammingErrorBitSet\n"),
+        Status::RepliesEnded => text(b" RepliesEnded\n"),
+        Status::LogFull => text(b" LogFull\n"),
+        _ => refusal(status),
+    }
+}
+
+// What the input brings on.
+fn refusal(status: Status) {
+    match status {
         Status::OutOfRange => text(b" OutOfRange\n"),
         Status::Alignment => text(b" Alignment\n"),
         Status::DataTooLarge => text(b" DataTooLarge\n"),
@@ -71,11 +82,7 @@ fn answer(status: Status) {
         Status::CrossesPageBoundary => text(b" CrossesPageBoundary\n"),
         Status::AddressSpan => text(b" AddressSpan\n"),
         Status::FieldTooWide => text(b" FieldTooWide\n"),
-        Status::EraseErrorBitSet => text(b" EraseErrorBitSet\n"),
-        Status::ProgrammingErrorBitSet => text(b" ProgrammingErrorBitSet\n"),
-        Status::RepliesEnded => text(b" RepliesEnded\n"),
-        Status::LogFull => text(b" LogFull\n"),
-        Status::LentLengthChanged => text(b" LentLengthChanged\n"),
+        _ => text(b" LentLengthChanged\n"),
     }
 }
 

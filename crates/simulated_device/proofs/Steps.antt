@@ -10,8 +10,8 @@ use lib.Dec.{eqb, ltb, leb}
 use lib.ListN.{length, getD, set, take}
 use lib.Seq.{sets, take-all}
 use Rattle.zedboard_bsp.specs.Words.{bytesOf}
-use Rattle.power_cut.specs.Controller.{high}
 use Rattle.qspi_operation.proofs.Verdicts.{no}
+use Rattle.power_cut.specs.Controller.{high}
 use Rattle.simulated_device.specs.Simulated.{Sim, simOf, canGo, canGoNow, wordOut, outFor, allOut, withTx, waited, passed, widthAt, doneByte, doneFrom, within, askedFor, executed, accepted, refusal, withConfig, noWords, latched, Executed, afterExecuted, risen, afterOf, configured, raised, started, wrote, writeOf, sending, afterSent, After}
 use Rattle.simulated_device.specs.declared.Device.{Device}
 use Rattle.simulated_device.specs.declared.Rx.{Rx}
@@ -27,7 +27,7 @@ getD-inside (x ∷ l) (suc i) d e h = getD-inside l i d e (omega arith)
 
 -- ---- words go out
 
-pub both-true : (a b : Bool) → cond a b false ≡ true → (a ≡ true) × (b ≡ true)
+both-true : (a b : Bool) → cond a b false ≡ true → (a ≡ true) × (b ≡ true)
 both-true true b h = (refl, h)
 both-true false b h = no h
 
@@ -68,7 +68,7 @@ all-keeps (suc n) s = by-test (canGoNow s) (all-keeps n (wordOut s))
     by-test true e = e
     by-test false e = refl
 
-pub is-all-out : (s : Sim) {d : Device} {received : List ℕ} → (d ≡ allOut s .device) × (received ≡ allOut s .received) → simOf d (s .sent) received (s .array) ≡ allOut s
+is-all-out : (s : Sim) {d : Device} {received : List ℕ} → (d ≡ allOut s .device) × (received ≡ allOut s .received) → simOf d (s .sent) received (s .array) ≡ allOut s
 unfolding allOut
 is-all-out s e = simp (e .0, e .1) (all-keeps (s .device .tx .released - s .device .tx .out) s)
 
@@ -92,13 +92,13 @@ passed-keeps s true true = refl
 passed-keeps s true false = refl
 passed-keeps s false b = refl
 
-pub is-passed : (s : Sim) {d : Device} {received : List ℕ} → (d ≡ passed s .device) × (received ≡ passed s .received) → simOf d (s .sent) received (s .array) ≡ passed s
+is-passed : (s : Sim) {d : Device} {received : List ℕ} → (d ≡ passed s .device) × (received ≡ passed s .received) → simOf d (s .sent) received (s .array) ≡ passed s
 is-passed s {received = received} e =
     ap (λ (d : Device). simOf d (s .sent) received (s .array)) (e .0)
     ∙ ap (λ (l : List ℕ). simOf (passed s .device) (s .sent) l (s .array)) (e .1)
     ∙ passed-keeps s (eqb (s .device .tx .pause) 0) (canGoNow s)
 
--- what is promised of a device and its memory, of another that is the same
+-- what is promised of one is promised of another that is the same
 pub as-sim : {s t : Sim} {d : Device} {received : List ℕ} → s ≡ t → (d ≡ t .device) × (received ≡ t .received) → (d ≡ s .device) × (received ≡ s .received)
 as-sim e p = (p .0 ∙ sym (ap (λ (x : Sim). x .device) e), p .1 ∙ sym (ap (λ (x : Sim). x .received) e))
 
@@ -218,10 +218,13 @@ by-either false x y l p q = q
 
 same-sent : (s : Sim) (v : ℕ) → s .sent ≡ configured s v .sent
 same-sent s v =
+    let x = allOut s in
     let all : s .sent ≡ allOut s .sent = ap (λ (t : Sim). t .sent) (is-all-out s (refl, refl)) in
-    let rise : s .sent ≡ raised s v .sent = by-either (eqb (allOut s .device .tx .out) (allOut s .device .tx .written)) (afterExecuted (executed (allOut s .device) v (allOut s .sent) (allOut s .array)) (allOut s)) (afterOf (refusal (allOut s .device)) (allOut s)) (s .sent) all all in
+    let effect = afterExecuted (executed (x .device) v (x .sent) (x .array)) x in
+    let rise = by-either (eqb (x .device .tx .out) (x .device .tx .written)) effect (afterOf (refusal (x .device)) x) (s .sent) all all in
+    let alone = afterOf (accepted (withConfig (s .device) v (s .device .tx) (s .device .chip))) s in
     let low = afterOf (accepted (withConfig (s .device) v (started (s .device .tx) v) (s .device .chip))) s in
-    by-either (high (s .device .config)) (afterOf (accepted (withConfig (s .device) v (s .device .tx) (s .device .chip))) s) (cond (high v) (raised s v) low) (s .sent) refl
+    by-either (high (s .device .config)) alone (cond (high v) (raised s v) low) (s .sent) refl
     (by-either (high v) (raised s v) low (s .sent) rise refl)
 
 module _ (s : Sim) (o v : ℕ) {d : Device} {received : List ℕ} (first : (d ≡ passed s .device) × (received ≡ passed s .received)) where

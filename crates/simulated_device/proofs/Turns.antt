@@ -6,14 +6,13 @@ use mathlib.Core.List.{List}
 use native.Mathlib.Omega.{arith}
 use borrow.Author.Tests.{lt-ltb, le-ltb}
 use lib.ListN.{length}
-use Rattle.qspi_script.specs.declared.Status.{Status}
 use Rattle.qspi_operation.specs.Step.{dueOf, stepOf, logOf, bufferOf, sameLengths}
 use Rattle.qspi_operation.specs.declared.Asked.{Asked}
 use Rattle.qspi_operation.specs.declared.Asked.the-variants as asked
 use Rattle.qspi_operation.specs.declared.Op.{Op}
 use Rattle.qspi_operation.specs.declared.Reply.{Reply}
 use Rattle.qspi_operation.specs.declared.Reply.the-variants.{Word, Nothing}
-use Rattle.simulated_device.specs.Simulated.{Sim, simOf, passed, readOf, writeOf}
+use Rattle.simulated_device.specs.Simulated.{passed, readOf, writeOf}
 use Rattle.simulated_device.specs.Running.{Turn, ranOf, simIn, stepped, onDue, turnOf, goesOn, turns, simulated}
 use Rattle.simulated_device.specs.declared.Device.{Device}
 use Rattle.simulated_device.specs.declared.Given.{Given}
@@ -116,12 +115,12 @@ module _ (replies : ℕ) (bytes : List ℕ) where
   no-turn zero t g = refl
   no-turn (suc n) t g = simp g
 
-  pub runs : (t : Turn) → sameLengths (t .ran .op .job) (length bytes) (length (t .buffer)) (length (t .log)) ≡ true
+  pub runs : (t : Turn) {b : Bool} → b ≡ sameLengths (t .ran .op .job) (length bytes) (length (t .buffer)) (length (t .log)) → b ≡ true
       → simulated replies bytes t ≡ turns (suc (length (t .log))) replies bytes t
   unfolding simulated
-  runs t e = simp e
+  runs t e h = simp (sym e ∙ h)
 
-  pub runs-not : (t : Turn) → sameLengths (t .ran .op .job) (length bytes) (length (t .buffer)) (length (t .log)) ≡ false
+  pub runs-not : (t : Turn) {b : Bool} → b ≡ sameLengths (t .ran .op .job) (length bytes) (length (t .buffer)) (length (t .log)) → b ≡ false
       → simulated replies bytes t ≡ stepped (t .ran .op) bytes (t .buffer) (t .log) Nothing (simIn t)
   unfolding simulated
-  runs-not t e = simp e
+  runs-not t e h = simp (sym e ∙ h)

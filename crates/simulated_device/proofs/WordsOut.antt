@@ -17,6 +17,7 @@ use Rattle.power_cut.proofs.Control.{join}
 use Rattle.simulated_device.specs.Replies.{statusOf, replyOf}
 use Rattle.simulated_device.specs.Simulated.{Sim, simOf, shown, canGo, canGoNow, wordOut, withTx, waited, passed, outFor, allOut}
 use Rattle.simulated_device.specs.declared.Chip.{Chip}
+use Rattle.simulated_device.proofs.Steps.{released-not-out, has-room}
 use Rattle.simulated_device.proofs.Standing.{Holds, resting, working, Fits, Stands, stands, stands-as, Leads, nowhere, on}
 
 no : {A : Type 0} → true ≡ false → A
@@ -99,19 +100,12 @@ later c command base array v t u w r f h = go (eqb command 0x05) refl f h
 
 -- ---- a word goes out
 
-both : (a b : Bool) → cond a b false ≡ true → (a ≡ true) × (b ≡ true)
-both true b h = (refl, h)
-both false b h = no (sym h)
-
 module _ (s : Sim) (can : canGoNow s ≡ true) where
-  abbrev parts : (ltb (s .device .tx .out) (s .device .tx .released) ≡ true) × (ltb (s .device .rx .put) (length (s .received)) ≡ true)
-  parts = both (ltb (s .device .tx .out) (s .device .tx .released)) (ltb (s .device .rx .put) (length (s .received))) can
-
   released : s .device .tx .out < s .device .tx .released
-  released = ltb-true (s .device .tx .out) (s .device .tx .released) (parts .0)
+  released = released-not-out (s .device .tx) (s .device .rx) (length (s .received)) can
 
   space : s .device .rx .put < length (s .received)
-  space = ltb-true (s .device .rx .put) (length (s .received)) (parts .1)
+  space = has-room (s .device .tx) (s .device .rx) (length (s .received)) can
 
   fits-on : (ws : List (List ℕ)) (b : List ℕ) (t u : List (List ℕ)) → Fits s ws (b ∷ t) u → Fits (wordOut s) (ws ++ b ∷ []) t u
   fits-on ws b t u h =

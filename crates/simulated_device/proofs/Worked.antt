@@ -17,14 +17,9 @@ use Rattle.power_cut.specs.Flash as flash
 use Rattle.simulated_device.specs.Replies.{byteAt}
 use Rattle.simulated_device.specs.Simulated.{doneByte, doneFrom, within, programming, erasing}
 use Rattle.simulated_device.specs.declared.work.Work.{Work}
+use Rattle.simulated_device.proofs.Steps.{getD-inside}
 
 -- ---- the lent part
-
--- where there is a byte, what stands for a missing one does not matter
-getD-any : (l : List ℕ) (i d e : ℕ) → i < length l → getD l i d ≡ getD l i e
-getD-any [] i d e p = absurd (omega arith)
-getD-any (x ∷ l) zero d e p = refl
-getD-any (x ∷ l) (suc i) d e p = getD-any l i d e (omega arith)
 
 abbrev pub Apart : ℕ → ℕ → ℕ → Type 0
 Apart y from n = (y < from) ⊎ (from + n ≤ y)
@@ -61,7 +56,7 @@ module _ (w : Work) (at bytes : ℕ) (sent : List ℕ) where
           let h : i ≡ j = eqb-true i j e in
           rw (sym h)
           (done-apart n (suc i) (set l (at + i) (new i l)) (at + i) (inl (omega arith))
-          ∙ (getD-set-same l (at + i) (new i l) 0xFF (omega arith) ∙ ap (λ (z : ℕ). doneByte w z i bytes sent) (getD-any l (at + i) 0 0xFF (omega arith))))
+          ∙ (getD-set-same l (at + i) (new i l) 0xFF (omega arith) ∙ ap (λ (z : ℕ). doneByte w z i bytes sent) (getD-inside l (at + i) 0 0xFF (omega arith))))
       go false e more =
           let h = eqb-false i j e in
           more (omega (arith, h))

@@ -90,15 +90,15 @@ pub fn at_rest(choices: Choices) -> Device
     }
 }
 
-pub fn with_tx(d: Device, tx: Tx) -> Device
-    ensures device { λ r. ⌜ r ≡ withTx d tx ⌝ }
+pub fn with_tx(d: Device, words: Tx) -> Device
+    ensures device { λ r. ⌜ r ≡ withTx d words ⌝ }
 {
     let rx = d.rx;
     let chip = d.chip;
     let choices = d.choices;
     Device {
         config: d.config,
-        tx,
+        tx: words,
         rx,
         chip,
         choices,

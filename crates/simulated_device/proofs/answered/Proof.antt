@@ -1,33 +1,24 @@
+-- By the offset, in the definition's order. Assumes nothing.
 use borrow.Author.Tests.{eq-eqb, ne-eqb}
 use borrow.Author.Needs.{needs}
 use Rattle.simulated_device.proofs.answered.Statement.{statement}
 use Rattle.simulated_device.proofs.answered.Tie as tie
-use Rattle.simulated_device.proofs.answered.Reads as reads
-use Rattle.simulated_device.proofs.answered.Lts as lts
-use Rattle.simulated_device.proofs.interrupt_status.Reads as interrupt-status-reads
-use Rattle.simulated_device.proofs.take.Reads as take-reads
 
--- src/lib.rt:169:9
 returns : tie.Need-returns
 returns c = simp (eq-eqb _ _ (c .if1 .taken))
 
--- src/lib.rt:177:20
 interrupt-status-requires : tie.Need-interrupt-status-requires
 interrupt-status-requires c κs = search needs
 
--- src/lib.rt:175:9
 returns-2 : tie.Need-returns-2
 returns-2 c = simp (c .interrupt-status .ensures, eq-eqb _ _ (c .before .if2 .taken), ne-eqb _ _ (c .before .before .if1 .left))
 
--- src/lib.rt:181:9
 take-requires : tie.Need-take-requires
 take-requires c κs = search needs
 
--- src/lib.rt:181:9
 returns-3 : tie.Need-returns-3
 returns-3 c = simp (c .take .ensures, eq-eqb _ _ (c .before .if3 .taken), ne-eqb _ _ (c .before .before .if2 .left), ne-eqb _ _ (c .before .before .before .if1 .left))
 
--- src/lib.rt:165:1
 returns-4 : tie.Need-returns-4
 returns-4 c = simp (ne-eqb _ _ (c .if3 .left), ne-eqb _ _ (c .before .if2 .left), ne-eqb _ _ (c .before .before .if1 .left))
 

@@ -1,18 +1,14 @@
+-- Each branch is the definition's, by the tests taken on the way. Assumes nothing.
 use borrow.Author.Tests.{le-ltb, lt-ltb}
 use Rattle.simulated_device.proofs.reply.status.Statement.{statement}
 use Rattle.simulated_device.proofs.reply.status.Tie as tie
-use Rattle.simulated_device.proofs.reply.status.Reads as reads
-use Rattle.simulated_device.proofs.reply.status.Lts as lts
 
--- src/reply.rt:53:9
 returns : tie.Need-returns
 returns c = simp (lt-ltb _ _ (c .if1 .taken))
 
--- src/reply.rt:49:1
 returns-2 : tie.Need-returns-2
 returns-2 c = simp (c .if2 .taken, le-ltb _ _ (c .before .if1 .left))
 
--- src/reply.rt:49:1
 returns-3 : tie.Need-returns-3
 returns-3 c = simp (c .if2 .left, le-ltb _ _ (c .before .if1 .left))
 

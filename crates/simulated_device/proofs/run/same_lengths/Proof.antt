@@ -1,18 +1,14 @@
+-- Each branch is the definition's, by the tests taken on the way. Assumes nothing.
 use borrow.Author.Tests.{eq-eqb, ne-eqb}
 use Rattle.simulated_device.proofs.run.same_lengths.Statement.{statement}
 use Rattle.simulated_device.proofs.run.same_lengths.Tie as tie
-use Rattle.simulated_device.proofs.run.same_lengths.Reads as reads
-use Rattle.simulated_device.proofs.run.same_lengths.Lts as lts
 
--- src/run.rt:120:13
 returns : tie.Need-returns
 returns c = simp (eq-eqb _ _ (c .before .if2 .taken), eq-eqb _ _ (c .before .before .before .if1 .taken))
 
--- src/run.rt:113:1
 returns-2 : tie.Need-returns-2
 returns-2 c = simp (ne-eqb _ _ (c .if2 .left), eq-eqb _ _ (c .before .before .if1 .taken))
 
--- src/run.rt:113:1
 returns-3 : tie.Need-returns-3
 returns-3 c = simp (ne-eqb _ _ (c .if1 .left))
 

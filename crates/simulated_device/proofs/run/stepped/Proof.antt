@@ -2,23 +2,16 @@
 use borrow.Author.Needs.{needs}
 use Rattle.simulated_device.proofs.run.stepped.Statement.{statement}
 use Rattle.simulated_device.proofs.run.stepped.Tie as tie
-use Rattle.simulated_device.proofs.run.stepped.Reads as reads
-use Rattle.simulated_device.proofs.run.stepped.Lts as lts
-use Rattle.qspi_operation.proofs.step.Reads as step-reads
 
--- src/run.rt:34:9
 step-requires : tie.Need-step-requires
 step-requires c κs = search needs
 
--- src/run.rt:22:1
 same-length : tie.Need-same-length
 same-length c = search needs
 
--- src/run.rt:22:1
 same-length-2 : tie.Need-same-length-2
 same-length-2 c = search needs
 
--- src/run.rt:22:1
 returns : tie.Need-returns
 returns c =
     let p = c .before .before .before .before .before .step .ensures in

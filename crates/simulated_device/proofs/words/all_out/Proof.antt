@@ -9,10 +9,6 @@ use Rattle.simulated_device.specs.Simulated.{Sim, simOf, allOut}
 use Rattle.simulated_device.proofs.Steps.{released-not-out, one-goes-out, none-goes-out}
 use Rattle.simulated_device.proofs.words.all_out.Statement.{statement}
 use Rattle.simulated_device.proofs.words.all_out.Tie as tie
-use Rattle.simulated_device.proofs.words.all_out.Reads as reads
-use Rattle.simulated_device.proofs.words.all_out.Lts as lts
-use Rattle.simulated_device.proofs.words.can_go.Reads as can-go-reads
-use Rattle.simulated_device.proofs.words.word_out.Reads as word-out-reads
 
 abbrev Inv-loop : tie.InvT-loop
 Inv-loop sent received₀ array x₀ received x =

@@ -1,14 +1,11 @@
+-- Each branch is the definition's, by the test taken on the way. Assumes nothing.
 use borrow.Author.Tests.{le-ltb, lt-ltb}
 use Rattle.simulated_device.proofs.words.can_go.Statement.{statement}
 use Rattle.simulated_device.proofs.words.can_go.Tie as tie
-use Rattle.simulated_device.proofs.words.can_go.Reads as reads
-use Rattle.simulated_device.proofs.words.can_go.Lts as lts
 
--- src/words.rt:41:9
 returns : tie.Need-returns
 returns c = simp (lt-ltb _ _ (c .before .if1 .taken))
 
--- src/words.rt:37:1
 returns-2 : tie.Need-returns-2
 returns-2 c = simp (le-ltb _ _ (c .if1 .left))
 

@@ -1,99 +1,77 @@
 -- The bytes that the width takes are written one after the other. Assumes nothing.
-use borrow.Author.Needs.{needs}
-use lib.ListN.{length-set}
-use denote.Ref.{now}
 use native.Mathlib.Omega.{arith}
+use borrow.Author.Needs.{needs}
+use denote.Ref.{now}
+use lib.ListN.{length-set}
 use Rattle.simulated_device.proofs.Steps.{puts-none, puts-one, puts-two, puts-three, puts-four}
 use Rattle.simulated_device.proofs.words.put_word.Statement.{statement}
 use Rattle.simulated_device.proofs.words.put_word.Tie as tie
-use Rattle.simulated_device.proofs.words.put_word.Reads as reads
-use Rattle.simulated_device.proofs.words.put_word.Lts as lts
 
--- src/words.rt:139:9
 returns : tie.Need-returns
 returns c =
     let x = c .before .args in
     puts-none (now (x .sent)) (x .at) (x .word) (x .width) (c .if1 .taken)
 
--- src/words.rt:141:16
 cast-sent : tie.Need-cast-sent
 cast-sent c = search needs
 
--- src/words.rt:141:5
 slice-write-sent : tie.Need-slice-write-sent
 slice-write-sent c = search needs
 
--- src/words.rt:143:9
 same-length : tie.Need-same-length
 same-length c = search needs
 
--- src/words.rt:143:9
 returns-2 : tie.Need-returns-2
 returns-2 c =
     let x = c .before .before .args in
     puts-one (now (x .sent)) (x .at) (x .word) (x .width) (c .before .if1 .left) (c .if2 .taken)
 
--- src/words.rt:145:20
 cast-sent-2 : tie.Need-cast-sent-2
 cast-sent-2 c = search needs
 
--- src/words.rt:145:10
 add-sent : tie.Need-add-sent
 add-sent c = search needs
 
--- src/words.rt:145:5
 slice-write-sent-2 : tie.Need-slice-write-sent-2
 slice-write-sent-2 c = simp length-set (omega arith)
 
--- src/words.rt:147:9
 same-length-2 : tie.Need-same-length-2
 same-length-2 c = search needs
 
--- src/words.rt:147:9
 returns-3 : tie.Need-returns-3
 returns-3 c =
     let x = c .before .before .before .args in
     puts-two (now (x .sent)) (x .at) (x .word) (x .width) (c .before .if2 .left) (c .if3 .taken)
 
--- src/words.rt:149:20
 cast-sent-3 : tie.Need-cast-sent-3
 cast-sent-3 c = search needs
 
--- src/words.rt:149:10
 add-sent-2 : tie.Need-add-sent-2
 add-sent-2 c = search needs
 
--- src/words.rt:149:5
 slice-write-sent-3 : tie.Need-slice-write-sent-3
 slice-write-sent-3 c = simp length-set (omega arith)
 
--- src/words.rt:151:9
 same-length-3 : tie.Need-same-length-3
 same-length-3 c = search needs
 
--- src/words.rt:151:9
 returns-4 : tie.Need-returns-4
 returns-4 c =
     let x = c .before .before .before .before .args in
     puts-three (now (x .sent)) (x .at) (x .word) (x .width) (c .before .if3 .left) (c .if4 .taken)
 
--- src/words.rt:153:20
 cast-sent-4 : tie.Need-cast-sent-4
 cast-sent-4 c = search needs
 
--- src/words.rt:153:10
 add-sent-3 : tie.Need-add-sent-3
 add-sent-3 c = search needs
 
--- src/words.rt:153:5
 slice-write-sent-4 : tie.Need-slice-write-sent-4
 slice-write-sent-4 c = simp length-set (omega arith)
 
--- src/words.rt:134:1
 same-length-4 : tie.Need-same-length-4
 same-length-4 c = search needs
 
--- src/words.rt:134:1
 returns-5 : tie.Need-returns-5
 returns-5 c =
     let x = c .before .before .before .before .args in

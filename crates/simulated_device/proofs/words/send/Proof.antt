@@ -1,89 +1,63 @@
 -- The definition's tests in its order; a word has four bytes at most, for which there is room. Assumes nothing.
-use borrow.Author.Tests.{le-ltb, lt-ltb}
 use mathlib.Core.Path.{sym, _∙_, refl}
-use borrow.Author.Needs.{needs}
 use native.Mathlib.Omega.{arith}
+use borrow.Author.Tests.{le-ltb, lt-ltb}
+use borrow.Author.Needs.{needs}
 use Rattle.simulated_device.proofs.Steps.{at-most-four}
 use Rattle.simulated_device.proofs.words.send.Statement.{statement}
 use Rattle.simulated_device.proofs.words.send.Tie as tie
-use Rattle.simulated_device.proofs.words.send.Reads as reads
-use Rattle.simulated_device.proofs.words.send.Lts as lts
-use Rattle.simulated_device.proofs.accepted.Reads as accepted-reads
-use Rattle.simulated_device.proofs.is_high.Reads as is-high-reads
-use Rattle.simulated_device.proofs.refused.Reads as refused-reads
-use Rattle.simulated_device.proofs.with_tx.Reads as with-tx-reads
-use Rattle.simulated_device.proofs.words.put_word.Reads as put-word-reads
-use Rattle.simulated_device.proofs.words.width.Reads as width-reads
 
--- src/words.rt:157:9
 width-requires : tie.Need-width-requires
 width-requires c κs = search needs
 
--- src/words.rt:158:8
 is-high-requires : tie.Need-is-high-requires
 is-high-requires c κs = search needs
 
--- src/words.rt:159:9
 refused-requires : tie.Need-refused-requires
 refused-requires c κs = search needs
 
--- src/words.rt:159:9
 returns : tie.Need-returns
 returns c = simp (c .refused .ensures, sym (c .before .before .is-high .ensures) ∙ c .before .if1 .taken) (refl, refl)
 
--- src/words.rt:162:9
 refused-requires-2 : tie.Need-refused-requires-2
 refused-requires-2 c κs = search needs
 
--- src/words.rt:162:9
 returns-2 : tie.Need-returns-2
 returns-2 c = simp (c .refused2 .ensures, lt-ltb _ _ (c .before .if2 .taken), sym (c .before .before .before .is-high .ensures) ∙ c .before .before .if1 .left) (refl, refl)
 
--- src/words.rt:164:8
 sub-if3 : tie.Need-sub-if3
 sub-if3 c = search needs
 
--- src/words.rt:165:9
 refused-requires-3 : tie.Need-refused-requires-3
 refused-requires-3 c κs = search needs
 
--- src/words.rt:165:9
 returns-3 : tie.Need-returns-3
 returns-3 c = simp (c .refused3 .ensures, lt-ltb _ _ (c .before .if3 .taken), le-ltb _ _ (c .before .before .before .if2 .left), sym (c .before .before .before .before .before .is-high .ensures) ∙ c .before .before .before .before .if1 .left) (refl, refl)
 
--- src/words.rt:168:9
 refused-requires-4 : tie.Need-refused-requires-4
 refused-requires-4 c κs = search needs
 
--- src/words.rt:168:9
 returns-4 : tie.Need-returns-4
 returns-4 c = simp (c .refused4 .ensures, lt-ltb _ _ (c .before .if4 .taken), le-ltb _ _ (c .before .before .before .if3 .left), le-ltb _ _ (c .before .before .before .before .before .if2 .left), sym (c .before .before .before .before .before .before .before .is-high .ensures) ∙ c .before .before .before .before .before .before .if1 .left) (refl, refl)
 
--- src/words.rt:170:5
 put-word-requires : tie.Need-put-word-requires
 put-word-requires c κs = search needs
 
--- src/words.rt:172:16
 add-t9 : tie.Need-add-t9
 add-t9 c = rw (c .before .before .before .before .before .before .before .before .before .before .before .before .width .ensures) (omega (arith, at-most-four (c .before .before .before .before .before .before .before .before .before .before .before .before .before .before .before .args .offset)))
 
--- src/words.rt:173:18
 add-t11 : tie.Need-add-t11
 add-t11 c = search needs
 
--- src/words.rt:178:21
 with-tx-requires : tie.Need-with-tx-requires
 with-tx-requires c κs = search needs
 
--- src/words.rt:178:5
 accepted-requires : tie.Need-accepted-requires
 accepted-requires c κs = search needs
 
--- src/words.rt:152:1
 same-length : tie.Need-same-length
 same-length c = search needs
 
--- src/words.rt:152:1
 returns-5 : tie.Need-returns-5
 returns-5 c = simp (c .accepted .ensures, c .before .with-tx .ensures, c .before .before .before .before .before .before .put-word .ensures, le-ltb _ _ (c .before .before .before .before .before .before .before .before .if4 .left), le-ltb _ _ (c .before .before .before .before .before .before .before .before .before .before .if3 .left), le-ltb _ _ (c .before .before .before .before .before .before .before .before .before .before .before .before .if2 .left), sym (c .before .before .before .before .before .before .before .before .before .before .before .before .before .before .is-high .ensures) ∙ c .before .before .before .before .before .before .before .before .before .before .before .before .before .if1 .left, c .before .before .before .before .before .before .before .before .before .before .before .before .before .before .before .width .ensures) (refl, refl)
 

@@ -8,9 +8,6 @@ use Rattle.simulated_device.specs.Simulated.{doneFrom}
 use Rattle.simulated_device.proofs.Steps.{one-done, all-done, none-done}
 use Rattle.simulated_device.proofs.work.done.Statement.{statement}
 use Rattle.simulated_device.proofs.work.done.Tie as tie
-use Rattle.simulated_device.proofs.work.done.Reads as reads
-use Rattle.simulated_device.proofs.work.done.Lts as lts
-use Rattle.simulated_device.proofs.work.done_byte.Reads as done-byte-reads
 
 abbrev Inv-loop : tie.InvT-loop
 Inv-loop w at bytes sent array₀ i₀ array i =

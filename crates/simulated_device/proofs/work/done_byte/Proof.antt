@@ -1,36 +1,27 @@
+-- Erased, programmed or left as it is, by the tests taken on the way. Assumes nothing.
 use borrow.Author.Tests.{le-ltb, lt-ltb}
 use borrow.Author.Needs.{needs}
 use Rattle.simulated_device.proofs.work.done_byte.Statement.{statement}
 use Rattle.simulated_device.proofs.work.done_byte.Tie as tie
-use Rattle.simulated_device.proofs.work.done_byte.Reads as reads
-use Rattle.simulated_device.proofs.work.done_byte.Lts as lts
-use Rattle.simulated_device.proofs.reply.sent_at.Reads as sent-at-reads
 
--- src/work.rt:98:9
 returns : tie.Need-returns
 returns c = search needs
 
--- src/work.rt:100:18
 add-place : tie.Need-add-place
 add-place c = search needs
 
--- src/work.rt:100:18
 sub-place : tie.Need-sub-place
 sub-place c = search needs
 
--- src/work.rt:100:17
 add-place-2 : tie.Need-add-place-2
 add-place-2 c = search needs
 
--- src/work.rt:102:15
 sent-at-requires : tie.Need-sent-at-requires
 sent-at-requires c κs = search needs
 
--- src/work.rt:94:1
 returns-2 : tie.Need-returns-2
 returns-2 c = simp (c .sent-at .ensures, lt-ltb _ _ (c .before .if2 .taken), c .before .before .before .if1 .left)
 
--- src/work.rt:94:1
 returns-3 : tie.Need-returns-3
 returns-3 c = simp (le-ltb _ _ (c .if2 .left), c .before .before .if1 .left)
 

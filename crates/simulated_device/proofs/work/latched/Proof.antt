@@ -1,33 +1,25 @@
-use mathlib.Core.Path.{sym, _∙_}
+-- By the chip, the bytes and the command, in the definition's order. Assumes nothing.
+use mathlib.Core.Path.{sym}
 use borrow.Author.Tests.{eq-eqb, le-ltb, lt-ltb, ne-eqb}
 use borrow.Author.Needs.{needs}
 use Rattle.simulated_device.proofs.work.latched.Statement.{statement}
 use Rattle.simulated_device.proofs.work.latched.Tie as tie
-use Rattle.simulated_device.proofs.work.latched.Reads as reads
-use Rattle.simulated_device.proofs.work.latched.Lts as lts
-use Rattle.simulated_device.proofs.reply.sent_at.Reads as sent-at-reads
 
--- src/work.rt:125:9
 sent-at-requires : tie.Need-sent-at-requires
 sent-at-requires c κs = search needs
 
--- src/work.rt:129:17
 returns : tie.Need-returns
 returns c = simp (eq-eqb _ _ (c .if3 .taken), lt-ltb _ _ (c .before .if2 .taken), eq-eqb _ _ (c .before .before .if1 .taken), sym (c .before .before .before .before .sent-at .ensures))
 
--- src/work.rt:135:17
 returns-2 : tie.Need-returns-2
 returns-2 c = simp (eq-eqb _ _ (c .if4 .taken), ne-eqb _ _ (c .before .if3 .left), lt-ltb _ _ (c .before .before .if2 .taken), eq-eqb _ _ (c .before .before .before .if1 .taken), sym (c .before .before .before .before .before .sent-at .ensures))
 
--- src/work.rt:122:1
 returns-3 : tie.Need-returns-3
 returns-3 c = simp (ne-eqb _ _ (c .if4 .left), ne-eqb _ _ (c .before .if3 .left), lt-ltb _ _ (c .before .before .if2 .taken), eq-eqb _ _ (c .before .before .before .if1 .taken), sym (c .before .before .before .before .before .sent-at .ensures))
 
--- src/work.rt:122:1
 returns-4 : tie.Need-returns-4
 returns-4 c = simp (le-ltb _ _ (c .if2 .left), eq-eqb _ _ (c .before .if1 .taken), sym (c .before .before .before .sent-at .ensures))
 
--- src/work.rt:122:1
 returns-5 : tie.Need-returns-5
 returns-5 c = simp (ne-eqb _ _ (c .if1 .left), sym (c .before .before .sent-at .ensures))
 

@@ -1,57 +1,48 @@
 -- All words go out; then the command takes effect, if none is left that start never released. Assumes nothing.
+use mathlib.Core.Path.{refl}
 use borrow.Author.Needs.{needs}
-use mathlib.Core.Path.{refl, _∙_}
 use denote.Ref.{now}
-use Rattle.simulated_device.specs.Simulated.{simOf}
+use Rattle.simulated_device.specs.Simulated.{Sim, simOf}
 use Rattle.simulated_device.proofs.Steps.{rises, stays, as-raised}
 use Rattle.simulated_device.proofs.work.raise.Statement.{statement}
 use Rattle.simulated_device.proofs.work.raise.Tie as tie
-use Rattle.simulated_device.proofs.work.raise.Reads as reads
-use Rattle.simulated_device.proofs.work.raise.Lts as lts
-use Rattle.simulated_device.proofs.refused.Reads as refused-reads
-use Rattle.simulated_device.proofs.words.all_out.Reads as all-out-reads
-use Rattle.simulated_device.proofs.work.execute.Reads as execute-reads
 
--- src/work.rt:177:9
+abbrev entry : tie.Start → Sim
+entry c =
+    let x = c .args in
+    simOf (x .d) (now (x .sent)) (now (x .received)) (now (x .array))
+
 all-out-requires : tie.Need-all-out-requires
 all-out-requires c κs = search needs
 
--- src/work.rt:180:9
 execute-requires : tie.Need-execute-requires
 execute-requires c κs = search needs
 
--- src/work.rt:182:9
 refused-requires : tie.Need-refused-requires
 refused-requires c κs = search needs
 
--- src/work.rt:172:1
 same-length : tie.Need-same-length
 same-length c = search needs
 
--- src/work.rt:172:1
 same-length-2 : tie.Need-same-length-2
 same-length-2 c = search needs
 
--- src/work.rt:172:1
 returns : tie.Need-returns
 returns c =
     let x = c .before .before .before .before .before .before .before .before .before .before .before .before .before .before .before .args in
-    let s = simOf (x .d) (now (x .sent)) (now (x .received)) (now (x .array)) in
+    let s = entry (c .before .before .before .before .before .before .before .before .before .before .before .before .before .before .before) in
     as-raised (rises s (x .value) (c .before .before .before .before .before .before .before .before .before .all-out .ensures) (c .before .before .before .before .if1 .taken)) (c .before .before .execute .ensures .0, (refl, c .before .before .execute .ensures .1))
 
--- src/work.rt:172:1
 same-length-3 : tie.Need-same-length-3
 same-length-3 c = search needs
 
--- src/work.rt:172:1
 same-length-4 : tie.Need-same-length-4
 same-length-4 c = search needs
 
--- src/work.rt:172:1
 returns-2 : tie.Need-returns-2
 returns-2 c =
     let x = c .before .before .before .before .before .before .before .before .before .before .before .before .args in
-    let s = simOf (x .d) (now (x .sent)) (now (x .received)) (now (x .array)) in
+    let s = entry (c .before .before .before .before .before .before .before .before .before .before .before .before) in
     as-raised (stays s (x .value) (c .before .before .before .before .before .before .all-out .ensures) (c .before .if1 .left)) (c .refused .ensures, (refl, refl))
 
 pub raise-spec : {M : Type 1} → statement M
