@@ -34,7 +34,7 @@ use Rattle.power_cut.specs.Controller.{AllOut, Trace, still, Rests, rests, flas
 use Rattle.power_cut.specs.Controller as controller
 use Rattle.simulated_device.specs.Replies.{byteAt}
 use Rattle.simulated_device.specs.Simulated.{Sim, simOf, atRest, readOf, writeOf}
-use Rattle.simulated_device.specs.Running.{Turn, simIn, stepped, afterRead, afterWrite, onDue, turnOf, goesOn, turns, simulated, beginning}
+use Rattle.simulated_device.specs.Running.{Turn, simIn, stepped, afterRead, afterWrite, metOn, dueIn, afterMeeting, turnOf, goesOn, turns, simulated, beginning}
 use Rattle.simulated_device.specs.Instance.{Instance}
 use Rattle.simulated_device.specs.declared.Choices.{Choices}
 use Rattle.simulated_device.proofs.Standing.{Holds, resting, working, Fits, Stands, stands, Leads, nowhere, on}
@@ -195,8 +195,10 @@ module _ (bytes : List ℕ) (base : ℕ) (before : controller.Device) (replies :
     ended-idles : isGoing (o .status) ≡ false → makes (verdictOf o bytes (length (t .buffer)) (length (t .log)) Nothing) ≡ false
     ended-idles g = rw g
 
-    read-turn : (x : ℕ) → isGoing (o .status) ≡ true → accessOf (o .job) (o .place) (o .wire) bytes ≡ due.Read x → (b : Bool)
-        → Further bytes base before (cond b (stepped o bytes (t .buffer) (t .log) (Word (readOf (simIn t) x .value)) (afterRead (simIn t) x)) (stepped o bytes (t .buffer) (t .log) Nothing (simIn t)))
+    abbrev met : Asked → Bool → Turn
+    met a b = afterMeeting (metOn a b (simIn t)) o (t .ran .answer) bytes (t .buffer) (t .log)
+
+    read-turn : (x : ℕ) → isGoing (o .status) ≡ true → accessOf (o .job) (o .place) (o .wire) bytes ≡ due.Read x → (b : Bool) → Further bytes base before (met (asked.Read x) b)
     read-turn x g h true =
         let v = readOf (simIn t) x .value in
         let y = on (st .leads) (reads (simIn t) (st .leads .after) (st .leads .standing) x) in
@@ -206,18 +208,13 @@ module _ (bytes : List ℕ) (base : ℕ) (before : controller.Device) (replies :
         }
     read-turn x g h false = idles Nothing (ap makes (decided Nothing g h))
 
-    write-turn : (x v : ℕ) → isGoing (o .status) ≡ true → accessOf (o .job) (o .place) (o .wire) bytes ≡ due.Write x v
-        → Further bytes base before (onDue (asked.Write x v) o (t .ran .answer) replies bytes (t .buffer) (t .log) (simIn t))
-    write-turn x v g h = go (writes (simIn t) (st .leads .after) (st .leads .standing) x v)
+    write-turn : (x v : ℕ) → isGoing (o .status) ≡ true → accessOf (o .job) (o .place) (o .wire) bytes ≡ due.Write x v → (b : Bool) → Further bytes base before (met (asked.Write x v) b)
+    write-turn x v g h b = go (writes (simIn t) (st .leads .after) (st .leads .standing) x v)
       where
-        y : Sim
-        y = afterWrite (writeOf (simIn t) x v)
-
         based₁ : writeOf (simIn t) x v .written .device .choices .base ≡ base
         based₁ = ap (λ (c : Choices). c .base) (write-choices (simIn t) x v) ∙ st .based
 
-        go : Attempt (st .leads .after) (access.Write x v) (writeOf (simIn t) x v)
-            → Further bytes base before (onDue (asked.Write x v) o (t .ran .answer) replies bytes (t .buffer) (t .log) (simIn t))
+        go : Attempt (st .leads .after) (access.Write x v) (writeOf (simIn t) x v) → Further bytes base before (met (asked.Write x v) b)
         go (made n z) =
             rw n
             (record {
@@ -231,19 +228,21 @@ module _ (bytes : List ℕ) (base : ℕ) (before : controller.Device) (replies :
               stage = record { is-log = st .is-log; within = st .within; leads = subst (λ (k : List Access). Leads before k (afterWrite (writeOf (simIn t) x v))) (append-nil l) (on (st .leads) z); lengths = st .lengths; based = based₁ };
             })
 
-    due-turn : (a : Asked) → Knows o bytes a → Further bytes base before (onDue a o (t .ran .answer) replies bytes (t .buffer) (t .log) (simIn t))
-    due-turn a (reading {x} g h) = read-turn x g h (ltb (o .replies) replies)
-    due-turn a (writing {x} {v} g h) = write-turn x v g h
-    due-turn a (ended g) = idles Nothing (ended-idles g)
-    due-turn a (changed h) = absurd (true≢false (sym (first-of (eqb (length bytes) (o .job .lent .«data»)) _ (st .lengths)) ∙ h))
+    due-turn : (a : Asked) → Knows o bytes a → (b : Bool) → Further bytes base before (met a b)
+    due-turn a (reading {x} g h) b = read-turn x g h b
+    due-turn a (writing {x} {v} g h) b = write-turn x v g h b
+    due-turn a (ended g) b = idles Nothing (ended-idles g)
+    due-turn a (changed h) b = absurd (true≢false (sym (first-of (eqb (length bytes) (o .job .lent .«data»)) _ (st .lengths)) ∙ h))
 
   turn-on : Further bytes base before (turnOf replies bytes t)
   turn-on = go (ltb (length (t .log) - o .used) 2) refl
     where
       go : (b : Bool) → ltb (length (t .log) - o .used) 2 ≡ b
-          → Further bytes base before (cond b (stepped o bytes (t .buffer) (t .log) Nothing (simIn t)) (onDue (dueOf o bytes) o (t .ran .answer) replies bytes (t .buffer) (t .log) (simIn t)))
+          → Further bytes base before (afterMeeting (metOn (cond b asked.Nothing (dueOf o bytes)) (ltb (o .replies) replies) (simIn t)) o (t .ran .answer) bytes (t .buffer) (t .log))
       go true h = full h
-      go false h = let p = ltb-false (length (t .log) - o .used) 2 h in due-turn (omega arith) (dueOf o bytes) (knows o bytes)
+      go false h =
+          let p = ltb-false (length (t .log) - o .used) 2 h in
+          due-turn (omega arith) (dueOf o bytes) (knows o bytes) (ltb (o .replies) replies)
 
 -- ---- a run
 

@@ -5,13 +5,9 @@ use mathlib.Core.Bool.{Bool, true, false, cond}
 use mathlib.Core.List.{List}
 use lib.Dec.{eqb, ltb}
 use lib.ListN.{length}
-use Rattle.qspi_operation.specs.declared.Asked.{Asked}
-use Rattle.qspi_operation.specs.declared.Asked.the-variants as asked
-use Rattle.qspi_operation.specs.Step.{dueOf}
 use Rattle.power_cut.specs.Controller.{high}
 use Rattle.simulated_device.specs.Simulated.{Sim, simOf, wordOut, withTx, waited, canGoNow, passed, outFor, allOut, takenFrom, answered, readOf, widthAt, askedFor, within, executed, works, sending, risen, raised, configured, wrote, writeOf, After}
 use Rattle.simulated_device.specs.Simulated as sim
-use Rattle.simulated_device.specs.Running.{Turn, simIn, onDue, turnOf}
 use Rattle.simulated_device.specs.declared.Choices.{Choices}
 use Rattle.simulated_device.specs.declared.Device.{Device}
 use Rattle.simulated_device.specs.declared.Given.{Given}

@@ -1,10 +1,11 @@
 -- A turn of a run, by the access that is due and the device's answer, and the turns of the run's loop. Assumes nothing.
 use Prim.Native.Nat.{ℕ, zero, suc, _-_, _<_, _≤_}
 use mathlib.Core.Path.{_≡_, refl, sym, ap, subst, _∙_}
-use mathlib.Core.Bool.{Bool, true, false}
+use mathlib.Core.Bool.{Bool, true, false, cond}
 use mathlib.Core.List.{List}
 use native.Mathlib.Omega.{arith}
 use borrow.Author.Tests.{lt-ltb, le-ltb}
+use lib.Dec.{ltb}
 use lib.ListN.{length}
 use Rattle.qspi_operation.specs.Step.{dueOf, stepOf, logOf, bufferOf, sameLengths}
 use Rattle.qspi_operation.specs.declared.Asked.{Asked}
@@ -12,11 +13,12 @@ use Rattle.qspi_operation.specs.declared.Asked.the-variants as asked
 use Rattle.qspi_operation.specs.declared.Op.{Op}
 use Rattle.qspi_operation.specs.declared.Reply.{Reply}
 use Rattle.qspi_operation.specs.declared.Reply.the-variants.{Word, Nothing}
-use Rattle.simulated_device.specs.Simulated.{passed, readOf, writeOf}
-use Rattle.simulated_device.specs.Running.{Turn, ranOf, simIn, stepped, onDue, turnOf, goesOn, turns, simulated}
+use Rattle.simulated_device.specs.Simulated.{Sim, passed, readOf, writeOf}
+use Rattle.simulated_device.specs.Running.{Turn, ranOf, turnAt, simIn, stepped, Meeting, metOf, nothingFor, metOn, dueIn, afterMeeting, turnOf, goesOn, turns, simulated}
 use Rattle.simulated_device.specs.declared.Device.{Device}
 use Rattle.simulated_device.specs.declared.Given.{Given}
 use Rattle.simulated_device.specs.declared.Written.{Written}
+use Rattle.simulated_device.specs.declared.run.Met.{Met}
 use Rattle.simulated_device.specs.declared.run.Ran.{Ran}
 use Rattle.simulated_device.proofs.Steps.{AfterIs}
 
@@ -41,55 +43,60 @@ module _ {r : Ran} {buffer₁ log₁ sent₁ received₁ array₁ : List ℕ} wh
   pub as-turn : {t u : Turn} → t ≡ u → TurnIs u r buffer₁ log₁ sent₁ received₁ array₁ → TurnIs t r buffer₁ log₁ sent₁ received₁ array₁
   as-turn e p = subst (λ (x : Turn). TurnIs x r buffer₁ log₁ sent₁ received₁ array₁) (sym e) p
 
+-- ---- the device and the access that is due
+
+abbrev pub MetIs : Meeting → Met → List ℕ → List ℕ → List ℕ → Type 0
+MetIs m x sent received array = (x ≡ metOf m) × ((sent ≡ m .sim .sent) × ((received ≡ m .sim .received) × (array ≡ m .sim .array)))
+
+as-met : {m n : Meeting} {x : Met} {sent received array : List ℕ} → m ≡ n → MetIs n x sent received array → MetIs m x sent received array
+as-met {x = x} {sent = sent} {received = received} {array = array} e p = subst (λ (y : Meeting). MetIs y x sent received array) (sym e) p
+
+module _ (s : Sim) (a : Asked) (b : Bool) where
+  pub met-read : (o : ℕ) (g : Given) {received : List ℕ} → a ≡ asked.Read o → b ≡ true → (g ≡ readOf s o) × (received ≡ passed s .received)
+      → MetIs (metOn a b s) (record { device = g .device; reply = Word (g .value); refused = false }) (s .sent) received (s .array)
+  met-read o g e k m =
+      as-met (ap (λ (x : Asked). metOn x b s) e ∙ ap (λ (x : Bool). metOn (asked.Read o) x s) k)
+      (ap (λ (x : Given). record { device = x .device; reply = Word (x .value); refused = false }) (m .0), (refl, (m .1, refl)))
+
+  pub met-write : (o v : ℕ) (w : Written) {sent received array : List ℕ} → a ≡ asked.Write o v → AfterIs (writeOf s o v) w sent received array
+      → MetIs (metOn a b s) (record { device = w .device; reply = Nothing; refused = w .refused }) sent received array
+  met-write o v w e m =
+      as-met (ap (λ (x : Asked). metOn x b s) e) (ap (λ (x : Written). record { device = x .device; reply = Nothing; refused = x .refused }) (m .0), m .1)
+
+  -- no access is the device's
+  pub met-not : {x : Met} → metOn a b s ≡ nothingFor s → x ≡ record { device = s .device; reply = Nothing; refused = false } → MetIs (metOn a b s) x (s .sent) (s .received) (s .array)
+  met-not e p = as-met e (p, (refl, (refl, refl)))
+
+  pub dry : (o : ℕ) → a ≡ asked.Read o → b ≡ false → metOn a b s ≡ nothingFor s
+  dry o e k = ap (λ (x : Asked). metOn x b s) e ∙ ap (λ (x : Bool). metOn (asked.Read o) x s) k
+
 -- ---- one turn
 
-module _ (replies : ℕ) (bytes : List ℕ) (t : Turn) {room : ℕ} (has : room ≡ length (t .log) - t .ran .op .used) where
-  pub full-turn : room < 2 → turnOf replies bytes t ≡ stepped (t .ran .op) bytes (t .buffer) (t .log) Nothing (simIn t)
-  full-turn h = simp (lt-ltb _ _ (subst (λ (x : ℕ). x < 2) has h))
+due-is : (replies : ℕ) (bytes : List ℕ) (t : Turn) {a : Asked} {b : Bool} → a ≡ dueIn (t .ran .op) bytes (length (t .log)) → b ≡ ltb (t .ran .op .replies) replies
+    → turnOf replies bytes t ≡ afterMeeting (metOn a b (simIn t)) (t .ran .op) (t .ran .answer) bytes (t .buffer) (t .log)
+due-is replies bytes t e k = rw (e, k)
 
-  due-turn : (a : Asked) → 2 ≤ room → dueOf (t .ran .op) bytes ≡ a
-      → turnOf replies bytes t ≡ onDue a (t .ran .op) (t .ran .answer) replies bytes (t .buffer) (t .log) (simIn t)
-  due-turn a h e = simp (le-ltb _ _ (subst (λ (x : ℕ). 2 ≤ x) has h), e)
+-- the driver steps with what the device has
+pub met-turn : (replies : ℕ) (bytes : List ℕ) (t : Turn) {a : Asked} {b : Bool} {m : Met} {sent received array : List ℕ} {r : Ran} {buffer log : List ℕ}
+    → a ≡ dueIn (t .ran .op) bytes (length (t .log)) → b ≡ ltb (t .ran .op .replies) replies → MetIs (metOn a b (simIn t)) m sent received array → m .refused ≡ false
+    → StepIs (t .ran .op) bytes (t .buffer) (t .log) (m .reply) (m .device) r buffer log
+    → TurnIs (turnOf replies bytes t) r buffer log sent received array
+met-turn replies bytes t {a} {b} {m} {sent} {received} {array} {r} {buffer} {log} e k x h p =
+    let y : Meeting = metOn a b (simIn t) in
+    let q = subst (λ (z : Met). StepIs (t .ran .op) bytes (t .buffer) (t .log) (z .reply) (z .device) r buffer log) (x .0) p in
+    let f : y .refused ≡ false = sym (ap (λ (z : Met). z .refused) (x .0)) ∙ h in
+    as-turn (due-is replies bytes t e k ∙ ap (λ (z : Bool). cond z (turnAt (ranOf (t .ran .op) (t .ran .answer) (y .sim .device) true) (t .buffer) (t .log) (y .sim)) (stepped (t .ran .op) bytes (t .buffer) (t .log) (y .reply) (y .sim))) f)
+    (q .0, (q .1 .0, (q .1 .1, x .1)))
 
-  pub refused-turn : 2 ≤ room → (o v : ℕ) (w : Written) {sent received array : List ℕ} → dueOf (t .ran .op) bytes ≡ asked.Write o v
-      → AfterIs (writeOf (simIn t) o v) w sent received array → w .refused ≡ true
-      → TurnIs (turnOf replies bytes t) (ranOf (t .ran .op) (t .ran .answer) (w .device) true) (t .buffer) (t .log) sent received array
-  refused-turn h o v w e m k =
-      as-turn (due-turn (asked.Write o v) h e ∙ simp (sym (ap (λ (x : Written). x .refused) (m .0)) ∙ k))
-      (ap (λ (x : Written). ranOf (t .ran .op) (t .ran .answer) (x .device) true) (m .0), (refl, (refl, m .1)))
-
-  module _ {r : Ran} {buffer log : List ℕ} (h : 2 ≤ room) where
-    pub read-turn : (o : ℕ) (g : Given) {received : List ℕ} → dueOf (t .ran .op) bytes ≡ asked.Read o → t .ran .op .replies < replies
-        → (g ≡ readOf (simIn t) o) × (received ≡ passed (simIn t) .received)
-        → StepIs (t .ran .op) bytes (t .buffer) (t .log) (Word (g .value)) (g .device) r buffer log
-        → TurnIs (turnOf replies bytes t) r buffer log (t .sent) received (t .array)
-    read-turn o g e k m p =
-        let q = subst (λ (x : Given). StepIs (t .ran .op) bytes (t .buffer) (t .log) (Word (x .value)) (x .device) r buffer log) (m .0) p in
-        as-turn (due-turn (asked.Read o) h e ∙ simp (lt-ltb _ _ k)) (q .0, (q .1 .0, (q .1 .1, (refl, (m .1, refl)))))
-
-    pub dry-turn : (o : ℕ) → dueOf (t .ran .op) bytes ≡ asked.Read o → replies ≤ t .ran .op .replies
-        → StepIs (t .ran .op) bytes (t .buffer) (t .log) Nothing (t .ran .device) r buffer log
-        → TurnIs (turnOf replies bytes t) r buffer log (t .sent) (t .received) (t .array)
-    dry-turn o e k p = as-turn (due-turn (asked.Read o) h e ∙ simp (le-ltb _ _ k)) (p .0, (p .1 .0, (p .1 .1, (refl, (refl, refl)))))
-
-    pub write-turn : (o v : ℕ) (w : Written) {sent received array : List ℕ} → dueOf (t .ran .op) bytes ≡ asked.Write o v
-        → AfterIs (writeOf (simIn t) o v) w sent received array → w .refused ≡ false
-        → StepIs (t .ran .op) bytes (t .buffer) (t .log) Nothing (w .device) r buffer log
-        → TurnIs (turnOf replies bytes t) r buffer log sent received array
-    write-turn o v w e m k p =
-        let q = subst (λ (x : Written). StepIs (t .ran .op) bytes (t .buffer) (t .log) Nothing (x .device) r buffer log) (m .0) p in
-        as-turn (due-turn (asked.Write o v) h e ∙ simp (sym (ap (λ (x : Written). x .refused) (m .0)) ∙ k)) (q .0, (q .1 .0, (q .1 .1, m .1)))
-
-    -- nothing is due: the step says so
-    pub idle-turn : dueOf (t .ran .op) bytes ≡ asked.Nothing
-        → StepIs (t .ran .op) bytes (t .buffer) (t .log) Nothing (t .ran .device) r buffer log
-        → TurnIs (turnOf replies bytes t) r buffer log (t .sent) (t .received) (t .array)
-    idle-turn e p = as-turn (due-turn asked.Nothing h e) (p .0, (p .1 .0, (p .1 .1, (refl, (refl, refl)))))
-
-    pub changed-turn : dueOf (t .ran .op) bytes ≡ asked.LentLengthChanged
-        → StepIs (t .ran .op) bytes (t .buffer) (t .log) Nothing (t .ran .device) r buffer log
-        → TurnIs (turnOf replies bytes t) r buffer log (t .sent) (t .received) (t .array)
-    changed-turn e p = as-turn (due-turn asked.LentLengthChanged h e) (p .0, (p .1 .0, (p .1 .1, (refl, (refl, refl)))))
+-- the device refuses
+pub refused-turn : (replies : ℕ) (bytes : List ℕ) (t : Turn) {a : Asked} {b : Bool} (m : Met) {sent received array : List ℕ}
+    → a ≡ dueIn (t .ran .op) bytes (length (t .log)) → b ≡ ltb (t .ran .op .replies) replies → MetIs (metOn a b (simIn t)) m sent received array → m .refused ≡ true
+    → TurnIs (turnOf replies bytes t) (ranOf (t .ran .op) (t .ran .answer) (m .device) true) (t .buffer) (t .log) sent received array
+refused-turn replies bytes t {a} {b} m e k x h =
+    let y : Meeting = metOn a b (simIn t) in
+    let f : y .refused ≡ true = sym (ap (λ (z : Met). z .refused) (x .0)) ∙ h in
+    as-turn (due-is replies bytes t e k ∙ ap (λ (z : Bool). cond z (turnAt (ranOf (t .ran .op) (t .ran .answer) (y .sim .device) true) (t .buffer) (t .log) (y .sim)) (stepped (t .ran .op) bytes (t .buffer) (t .log) (y .reply) (y .sim))) f)
+    (ap (λ (z : Met). ranOf (t .ran .op) (t .ran .answer) (z .device) true) (x .0), (refl, (refl, x .1)))
 
 -- ---- the turns of a run
 

@@ -13,6 +13,7 @@ use Rattle.qspi_operation.specs.declared.Reply.the-variants.{Word, Nothing}
 use Rattle.qspi_operation.specs.Step.{isGoing, dueOf, stepOf, logOf, bufferOf, sameLengths}
 use Rattle.simulated_device.specs.Simulated.{Sim, simOf, passed, readOf, After, writeOf}
 use Rattle.simulated_device.specs.declared.Device.{Device}
+use Rattle.simulated_device.specs.declared.run.Met.{Met}
 use Rattle.simulated_device.specs.declared.run.Ran.{Ran}
 
 -- the memory that is lent to the driver, and the device with its own
@@ -48,22 +49,39 @@ afterRead s o = simOf (readOf s o .device) (s .sent) (passed s .received) (s .ar
 abbrev pub afterWrite : After → Sim
 afterWrite x = simOf (x .written .device) (x .sent) (x .received) (x .array)
 
--- by the access that is due: at most so many reads get a reply, and a write that the device refuses is not made
-abbrev pub onDue : Asked → Op → Status → ℕ → List ℕ → List ℕ → List ℕ → Sim → Turn
-onDue (asked.Read o) op a replies bytes buffer log s =
-    cond (ltb (op .replies) replies) (stepped op bytes buffer log (Word (readOf s o .value)) (afterRead s o)) (stepped op bytes buffer log Nothing s)
-onDue (asked.Write o v) op a replies bytes buffer log s =
-    cond (writeOf s o v .written .refused)
-    (turnAt (ranOf op a (writeOf s o v .written .device) true) buffer log (afterWrite (writeOf s o v)))
-    (stepped op bytes buffer log Nothing (afterWrite (writeOf s o v)))
-onDue asked.Nothing op a replies bytes buffer log s = stepped op bytes buffer log Nothing s
-onDue asked.LentLengthChanged op a replies bytes buffer log s = stepped op bytes buffer log Nothing s
+-- what the device has for the access that is due
+pub record Meeting : Type 0 where
+  pub reply : Reply
+  pub sim : Sim
+  pub refused : Bool
 
--- a step; without room it is 24, and the device sees nothing of it
+-- as the code hands it on
+abbrev pub metOf : Meeting → Met
+metOf m = record { device = m .sim .device; reply = m .reply; refused = m .refused }
+
+abbrev pub nothingFor : Sim → Meeting
+nothingFor s = record { reply = Nothing; sim = s; refused = false }
+
+-- a read gets a reply where one is left, and a write that the device refuses is not made
+abbrev pub metOn : Asked → Bool → Sim → Meeting
+metOn (asked.Read o) true s = record { reply = Word (readOf s o .value); sim = afterRead s o; refused = false }
+metOn (asked.Read o) false s = nothingFor s
+metOn (asked.Write o v) left s = record { reply = Nothing; sim = afterWrite (writeOf s o v); refused = writeOf s o v .written .refused }
+metOn asked.Nothing left s = nothingFor s
+metOn asked.LentLengthChanged left s = nothingFor s
+
+-- without room the step is 24, and the device sees nothing of it
+abbrev pub dueIn : Op → List ℕ → ℕ → Asked
+dueIn o bytes room = cond (ltb (room - o .used) 2) asked.Nothing (dueOf o bytes)
+
+abbrev pub afterMeeting : Meeting → Op → Status → List ℕ → List ℕ → List ℕ → Turn
+afterMeeting m o a bytes buffer log =
+    cond (m .refused) (turnAt (ranOf o a (m .sim .device) true) buffer log (m .sim)) (stepped o bytes buffer log (m .reply) (m .sim))
+
+-- one step; at most so many reads get a reply
 abbrev pub turnOf : ℕ → List ℕ → Turn → Turn
 turnOf replies bytes t =
-    cond (ltb (length (t .log) - t .ran .op .used) 2) (stepped (t .ran .op) bytes (t .buffer) (t .log) Nothing (simIn t))
-    (onDue (dueOf (t .ran .op) bytes) (t .ran .op) (t .ran .answer) replies bytes (t .buffer) (t .log) (simIn t))
+    afterMeeting (metOn (dueIn (t .ran .op) bytes (length (t .log))) (ltb (t .ran .op .replies) replies) (simIn t)) (t .ran .op) (t .ran .answer) bytes (t .buffer) (t .log)
 
 abbrev pub goesOn : Ran → Bool
 goesOn r = cond (r .refused) false (isGoing (r .answer))

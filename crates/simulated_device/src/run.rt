@@ -1,10 +1,12 @@
 // A call of the driver against the device, access by access.
 ghost use mathlib.Core.Path.{_≡_};
 ghost use mathlib.Core.Bool.{false};
-ghost use Prim.Native.Nat.{_-_};
+ghost use Prim.Native.Nat.{suc, _-_};
 ghost use lib.ListN.{length};
+ghost use Rattle.qspi_operation.specs.declared.Reply.the-variants.{Nothing};
 ghost use Rattle.qspi_operation.specs.Step.{stepOf, logOf, bufferOf, sameLengths};
-ghost use Rattle.simulated_device.specs.Running.{ranOf, goesOn, turnOf, beginning, simulated};
+ghost use Rattle.simulated_device.specs.Simulated.{simOf};
+ghost use Rattle.simulated_device.specs.Running.{ranOf, metOf, metOn, dueIn, goesOn, turnOf, turns, beginning, simulated};
 use crate::Device;
 use qspi_operation::Asked;
 use qspi_operation::Op;
@@ -16,6 +18,13 @@ pub struct Ran {
     pub op: Op,
     pub answer: Status,
     pub device: Device,
+    pub refused: bool,
+}
+
+// What the device has for the access that is due.
+pub struct Met {
+    pub device: Device,
+    pub reply: Reply,
     pub refused: bool,
 }
 
@@ -62,7 +71,69 @@ fn room(length: usize, used: usize) -> usize
     if used < length { length - used } else { 0 }
 }
 
-// One step. Without room the driver answers 24, and the device sees nothing of it.
+// Without room the driver answers 24, and the device sees nothing of it.
+fn due_in(op: Op, data: &[u8], length: usize) -> Asked
+    ensures due { λ r. ⌜ r ≡ dueIn op (now («data» .entry)) length ⌝ }
+{
+    if room(length, op.used) < 2 {
+        return Asked::Nothing;
+    }
+    qspi_operation::due(op, data)
+}
+
+fn nothing_for(device: Device) -> Met
+    ensures met { λ r. ⌜ r ≡ record { device = device; reply = Nothing; refused = false } ⌝ }
+{
+    Met {
+        device,
+        reply: Reply::Nothing,
+        refused: false,
+    }
+}
+
+// A read gets a reply where one is left, and a write that the device refuses is not made.
+fn meet(
+    due: Asked,
+    is_left: bool,
+    device: Device,
+    sent: &mut [u8],
+    received: &mut [u32],
+    array: &mut [u8],
+) -> Met
+    ensures met { λ r. ⌜ r ≡ metOf (metOn due «is_left» (simOf device (now (sent .entry)) (now (received .entry)) (now (array .entry)))) ⌝ }
+    ensures sent { λ _. ⌜ now (sent .exit) ≡ (metOn due «is_left» (simOf device (now (sent .entry)) (now (received .entry)) (now (array .entry)))) .sim .sent ⌝ }
+    ensures received { λ _. ⌜ now (received .exit) ≡ (metOn due «is_left» (simOf device (now (sent .entry)) (now (received .entry)) (now (array .entry)))) .sim .received ⌝ }
+    ensures array { λ _. ⌜ now (array .exit) ≡ (metOn due «is_left» (simOf device (now (sent .entry)) (now (received .entry)) (now (array .entry)))) .sim .array ⌝ }
+{
+    match due {
+        Asked::Read(offset) => {
+            if is_left {
+                let given = crate::read(device, offset, sent, received, array);
+                let after = given.device;
+                Met {
+                    device: after,
+                    reply: Reply::Word(given.value),
+                    refused: false,
+                }
+            } else {
+                nothing_for(device)
+            }
+        }
+        Asked::Write(offset, value) => {
+            let written = crate::write(device, offset, value, sent, received, array);
+            let after = written.device;
+            Met {
+                device: after,
+                reply: Reply::Nothing,
+                refused: written.refused,
+            }
+        }
+        Asked::Nothing => nothing_for(device),
+        Asked::LentLengthChanged => nothing_for(device),
+    }
+}
+
+// One step.
 fn turn(
     r: Ran,
     replies: usize,
@@ -82,38 +153,50 @@ fn turn(
 {
     let op = r.op;
     let device = r.device;
-    let used = op.used;
-    if room(log.len(), used) < 2 {
-        return stepped(op, data, buffer, log, Reply::Nothing, device);
+    let due = due_in(op, data, log.len());
+    let met = meet(due, op.replies < replies, device, sent, received, array);
+    let after = met.device;
+    let reply = met.reply;
+    if met.refused {
+        let answer = r.answer;
+        return Ran {
+            op,
+            answer,
+            device: after,
+            refused: true,
+        };
     }
-    match qspi_operation::due(op, data) {
-        Asked::Read(offset) => {
-            if op.replies < replies {
-                let given = crate::read(device, offset, sent, received, array);
-                let after = given.device;
-                stepped(op, data, buffer, log, Reply::Word(given.value), after)
-            } else {
-                stepped(op, data, buffer, log, Reply::Nothing, device)
-            }
+    stepped(op, data, buffer, log, reply, after)
+}
+
+// At most one step more than there are words of log.
+fn turns(
+    r: Ran,
+    replies: usize,
+    data: &[u8],
+    buffer: &mut [u8],
+    log: &mut [u32],
+    sent: &mut [u8],
+    received: &mut [u32],
+    array: &mut [u8],
+) -> Ran
+    ensures ran { λ x. ⌜ x ≡ turns (suc (length (now (log .entry)))) replies (now («data» .entry)) (record { ran = r; buffer = now (buffer .entry); log = now (log .entry); sent = now (sent .entry); received = now (received .entry); array = now (array .entry) }) .ran ⌝ }
+    ensures buffer { λ _. ⌜ now (buffer .exit) ≡ turns (suc (length (now (log .entry)))) replies (now («data» .entry)) (record { ran = r; buffer = now (buffer .entry); log = now (log .entry); sent = now (sent .entry); received = now (received .entry); array = now (array .entry) }) .buffer ⌝ }
+    ensures log { λ _. ⌜ now (log .exit) ≡ turns (suc (length (now (log .entry)))) replies (now («data» .entry)) (record { ran = r; buffer = now (buffer .entry); log = now (log .entry); sent = now (sent .entry); received = now (received .entry); array = now (array .entry) }) .log ⌝ }
+    ensures sent { λ _. ⌜ now (sent .exit) ≡ turns (suc (length (now (log .entry)))) replies (now («data» .entry)) (record { ran = r; buffer = now (buffer .entry); log = now (log .entry); sent = now (sent .entry); received = now (received .entry); array = now (array .entry) }) .sent ⌝ }
+    ensures received { λ _. ⌜ now (received .exit) ≡ turns (suc (length (now (log .entry)))) replies (now («data» .entry)) (record { ran = r; buffer = now (buffer .entry); log = now (log .entry); sent = now (sent .entry); received = now (received .entry); array = now (array .entry) }) .received ⌝ }
+    ensures array { λ _. ⌜ now (array .exit) ≡ turns (suc (length (now (log .entry)))) replies (now («data» .entry)) (record { ran = r; buffer = now (buffer .entry); log = now (log .entry); sent = now (sent .entry); received = now (received .entry); array = now (array .entry) }) .array ⌝ }
+{
+    let mut x = r;
+    let mut left = log.len();
+    while goes_on(x) {
+        x = turn(x, replies, data, buffer, log, sent, received, array);
+        if left == 0 {
+            return x;
         }
-        Asked::Write(offset, value) => {
-            let written = crate::write(device, offset, value, sent, received, array);
-            let after = written.device;
-            if written.refused {
-                let answer = r.answer;
-                Ran {
-                    op,
-                    answer,
-                    device: after,
-                    refused: true,
-                }
-            } else {
-                stepped(op, data, buffer, log, Reply::Nothing, after)
-            }
-        }
-        Asked::Nothing => stepped(op, data, buffer, log, Reply::Nothing, device),
-        Asked::LentLengthChanged => stepped(op, data, buffer, log, Reply::Nothing, device),
+        left -= 1;
     }
+    x
 }
 
 // Whether each lent length is the one of the start.
@@ -153,19 +236,11 @@ pub fn run(
         return stepped(op, data, buffer, log, Reply::Nothing, device);
     }
     let answer = op.status;
-    let mut r = Ran {
+    let r = Ran {
         op,
         answer,
         device,
         refused: false,
     };
-    let mut left = log.len();
-    while goes_on(r) {
-        r = turn(r, replies, data, buffer, log, sent, received, array);
-        if left == 0 {
-            return r;
-        }
-        left -= 1;
-    }
-    r
+    turns(r, replies, data, buffer, log, sent, received, array)
 }
