@@ -1,6 +1,6 @@
 -- The words of a log of bytes, as `words_in` makes them: a short record of bytes is a short record of words, and every place has the same
 -- entry. Assumes nothing.
-use Prim.Native.Nat.{ℕ, _+_, _*_, _/_, _<_, _≤_}
+use Prim.Native.Nat.{ℕ, _+_, _*_, _/_, _%_, _<_, _≤_}
 use mathlib.Core.Path.{_≡_, refl, sym, ap, _∙_}
 use mathlib.Core.Bool.{Bool, true, false}
 use mathlib.Core.List.{List}
@@ -10,7 +10,7 @@ use lib.Seq.{getD-set-same, getD-set-other, getD-take, length-take-le}
 use native.Mathlib.Omega.{arith}
 use borrow.Author.Tests.{ltb-true, ltb-false}
 use Rattle.zynq7000.specs.Access.{recordOf}
-use Rattle.access_log.specs.Log.{entryOf, entryAt, entryIn, wordAt, SamePlace}
+use Rattle.access_log.specs.Log.{entryOf, entryAt, entryIn, wordAt}
 use Rattle.access_log.proofs.Places.{at-whole, at-short, at-end, in-whole, in-short, in-end}
 
 -- one element more of those that f gives
@@ -25,6 +25,27 @@ one-more f words i v room so-far e k h = by-place (ltb k i) refl
     by-place false s =
         let here : k ≡ i = omega (arith, ltb-false k i s) in
         ap (λ (n : ℕ). getD (set words i v) n 0) here ∙ (getD-set-same words i v 0 room ∙ (e ∙ ap f (sym here)))
+
+-- a place has a whole record, or the start of one, in so many words where it has in so many bytes
+pub record SamePlace (words bytes at : ℕ) : Type 0 where
+  pub whole : at * 8 + 8 ≤ bytes → at * 2 + 2 ≤ words
+  pub short : bytes < at * 8 + 8 → words < at * 2 + 2
+  pub begun : at * 8 < bytes → at * 2 < words
+  pub none : bytes ≤ at * 8 → words ≤ at * 2
+
+-- so many words as `word_count` gives, of 512 records at most
+pub same-place : (words bytes at : ℕ) → (512 ≤ bytes / 8 → words ≡ 1024) → (bytes / 8 < 512 → words ≡ bytes / 8 * 2 + (bytes % 8 + 7) / 8) → at < 512
+    → SamePlace words bytes at
+same-place words bytes at full part h = by-size (ltb (bytes / 8) 512) refl
+  where
+    by-size : (b : Bool) → ltb (bytes / 8) 512 ≡ b → SamePlace words bytes at
+    by-size true e =
+        let n = part (ltb-true (bytes / 8) 512 e) in
+        record { whole = λ f. omega (arith, n); short = λ f. omega (arith, n); begun = λ f. omega (arith, n); none = λ f. omega (arith, n) }
+    by-size false e =
+        let long = ltb-false (bytes / 8) 512 e in
+        let n = full long in
+        record { whole = λ f. omega (arith, n); short = λ f. omega (arith, n, long); begun = λ f. omega (arith, n); none = λ f. omega (arith, n, long) }
 
 -- THEOREM. Where n words hold those of the whole records, and a place is whole or begun in them where it is in the bytes, it has the entry of
 -- the bytes.

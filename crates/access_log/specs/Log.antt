@@ -1,6 +1,6 @@
 -- What stands at a place of a log: document 01, "Log and printer", and rule 13 of "What the input can bring on". A place is a record's
 -- number from 0; a record is two words, or their eight bytes, low byte first.
-use Prim.Native.Nat.{ℕ, _+_, _*_, _/_, _%_, _<_, _≤_}
+use Prim.Native.Nat.{ℕ, _+_, _*_, _/_, _%_}
 use mathlib.Core.Bool.{Bool, true, false, cond}
 use mathlib.Core.List.{List, [], _∷_}
 use lib.Dec.{eqb, leb, ltb}
@@ -47,13 +47,6 @@ wordAt bytes i =
 -- the same of a log of bytes: a tail of 1 to 7 bytes is a short record
 unfoldable pub entryIn : List ℕ → ℕ → Entry
 entryIn bytes at = placed 8 (length bytes) at (recordOf (wordAt bytes (at * 8)) (wordAt bytes (at * 8 + 4)))
-
--- a place has a whole record, or the start of one, in so many words where it has in so many bytes
-pub record SamePlace (words bytes at : ℕ) : Type 0 where
-  pub whole : at * 8 + 8 ≤ bytes → at * 2 + 2 ≤ words
-  pub short : bytes < at * 8 + 8 → words < at * 2 + 2
-  pub begun : at * 8 < bytes → at * 2 < words
-  pub none : bytes ≤ at * 8 → words ≤ at * 2
 
 -- of a log of words, the same in 01's numbers: 13 with the place, or 0 with the record's two words, or 0 alone past the end
 abbrev pub recordAnswer : ℕ → ℕ → ℕ → Answer

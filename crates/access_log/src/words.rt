@@ -1,9 +1,9 @@
 // The words of a log of little-endian bytes.
 ghost use mathlib.Core.Path.{_≡_};
-ghost use Prim.Native.Nat.{ℕ, _+_, _*_, _/_, _<_, _≤_};
+ghost use Prim.Native.Nat.{ℕ, _+_, _*_, _/_, _%_, _<_, _≤_};
 ghost use lib.ListN.{length, take, getD};
 ghost use Rattle.io.specs.Counts.{Counts};
-ghost use Rattle.access_log.specs.Log.{entryAt, entryIn, wordAt, SamePlace};
+ghost use Rattle.access_log.specs.Log.{entryAt, entryIn, wordAt};
 
 // The records of a buffer, and their words.
 pub const RECORDS: usize = 512;
@@ -24,7 +24,8 @@ pub fn words_in(bytes: &[u8], words: &mut [u32; WORDS]) -> usize
 // so that a short record stays short.
 fn word_count(bytes: usize) -> usize
     ensures within { λ r. ⌜ (r ≤ 1024) × (r / 2 * 8 ≤ bytes) ⌝ }
-    ensures places { λ r. ⌜ ((at : ℕ) → at < 512 → SamePlace r bytes at) ⌝ }
+    ensures full { λ r. ⌜ (512 ≤ bytes / 8 → r ≡ 1024) ⌝ }
+    ensures part { λ r. ⌜ (bytes / 8 < 512 → r ≡ bytes / 8 * 2 + (bytes % 8 + 7) / 8) ⌝ }
 {
     let whole = bytes / 8;
     if whole >= RECORDS {

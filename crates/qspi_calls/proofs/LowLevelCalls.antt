@@ -32,10 +32,9 @@ use Rattle.qspi_operation.proofs.Verdicts.{no}
 use Rattle.qspi_calls.specs.Machine.{Action, write, modify, Midway, first, changed, Want, nothing, wantAt, Script, ends, perform, none, State, going, ended, onward, want, next, statusIn, valuesIn, bytesIn, countIn, overlaid}
 use Rattle.qspi_calls.specs.Calls as call
 use Rattle.qspi_calls.specs.Calls.{done, refused}
-use Rattle.qspi_calls.specs.Values.{whenDone}
 use Rattle.qspi_calls.specs.Starts as start
 use Rattle.qspi_calls.proofs.Tied.{asked, after, Tie}
-use Rattle.qspi_calls.proofs.Short.{no-values}
+use Rattle.qspi_calls.proofs.Short.{no-values, whenDone}
 use Rattle.qspi_calls.proofs.Whole.{Starts}
 
 abbrev registers : ℕ → ℕ → Wire

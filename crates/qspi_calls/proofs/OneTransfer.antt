@@ -19,11 +19,10 @@ use Rattle.qspi_script.specs.declared.Place.{Place}
 use Rattle.qspi_calls.specs.Machine.{Transfer, Script, ends}
 use Rattle.qspi_calls.specs.Calls as call
 use Rattle.qspi_calls.specs.Calls.{top, done}
-use Rattle.qspi_calls.specs.Values.{whenDone}
 use Rattle.qspi_calls.specs.Starts as start
 use Rattle.qspi_calls.proofs.Phases.{wire, words, Same}
 use Rattle.qspi_calls.proofs.Scripted.{Turns, over}
-use Rattle.qspi_calls.proofs.Short.{of-one, of-three, same-short, word-short, Only, only, no-values, one-transfer}
+use Rattle.qspi_calls.proofs.Short.{of-one, of-three, same-short, word-short, Only, only, no-values, whenDone, one-transfer}
 use Rattle.qspi_calls.proofs.Whole.{Starts}
 
 -- where the values of an answer stand at the end of a call

@@ -20,6 +20,7 @@ use Rattle.qspi_operation.specs.Step.{isGoing, programmedAt}
 use Rattle.qspi_operation.proofs.Verdicts.{no}
 use Rattle.qspi_calls.specs.Machine.{Transfer, Script, ends, exchange, none, begin, State, ended, nothing, want, statusIn, valuesIn, countIn}
 use Rattle.qspi_calls.specs.Calls.{short}
+use Rattle.qspi_calls.specs.Values.{isDone}
 use Rattle.qspi_calls.specs.Starts as start
 use Rattle.qspi_calls.proofs.Tied.{Tie}
 use Rattle.qspi_calls.proofs.Phases.{wire, words, Same, p-drain}
@@ -54,6 +55,10 @@ pub data Only (p₀ : Place) (x₀ : Transfer) (k₀ : List ℕ → Script) : Pl
 -- the values that a call without any has
 abbrev pub no-values : Status → Wire → List ℕ
 no-values a w = []
+
+-- values where the call is done
+abbrev pub whenDone : Status → List ℕ → List ℕ
+whenDone a vs = cond (isDone a) vs []
 
 module _ (job : Job) (p : Place) (buffer : List ℕ) (Values : Status → Wire → List ℕ) (x : Transfer) (k : List ℕ → Script) (same : Same (frameOf job p) x)
     (word : (i : ℕ) → i < length (words x) → dueWord job p i [] ≡ getD (words x) i 0)

@@ -1,7 +1,6 @@
--- The values of an answer: a call that is done has them, one that is not has none.
-use Prim.Native.Nat.{ℕ}
-use mathlib.Core.Bool.{Bool, true, false, cond}
-use mathlib.Core.List.{List, []}
+-- Which answers have values: a call that is done has them, one that is not has none. Document 01 gives values with the calls that return
+-- something (ids, status and config, the SLCR clock word), and to a refusal of theirs none.
+use mathlib.Core.Bool.{Bool, true, false}
 use Rattle.qspi_script.specs.declared.Status.{Status}
 use Rattle.qspi_script.specs.declared.Status.the-variants.{Going, Done, OutOfRange, Alignment, DataTooLarge, NotAligned, CrossesPageBoundary, AddressSpan, FieldTooWide, EraseErrorBitSet, ProgrammingErrorBitSet, RepliesEnded, LogFull, LentLengthChanged}
 
@@ -20,6 +19,3 @@ isDone ProgrammingErrorBitSet = false
 isDone RepliesEnded = false
 isDone LogFull = false
 isDone LentLengthChanged = false
-
-abbrev pub whenDone : Status → List ℕ → List ℕ
-whenDone a vs = cond (isDone a) vs []

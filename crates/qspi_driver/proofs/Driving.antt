@@ -10,7 +10,8 @@ use Rattle.qspi_operation.specs.declared.Op.{Op}
 use Rattle.qspi_operation.specs.declared.Reply.{Reply}
 use Rattle.qspi_operation.specs.declared.Stepped.{Stepped as Operation}
 use Rattle.qspi_operation.specs.Step.{isGoing, stepOf, logOf, bufferOf, replyOf}
-use Rattle.qspi_operation.specs.Run.{runAt, runOf, fuel, left}
+use Rattle.qspi_operation.specs.Run.{runAt, runOf, fuel}
+use Rattle.qspi_operation.specs.Pass.{left}
 use Rattle.qspi_operation.proofs.Verdicts.{no}
 use Rattle.qspi_operation.proofs.Runs.{halted, Turn, turn}
 use Rattle.qspi_driver.specs.State.{begunIf, begunOf, steppedOf, isUnderWay}

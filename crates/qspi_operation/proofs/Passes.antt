@@ -30,8 +30,8 @@ use Rattle.qspi_operation.specs.declared.Verdict.{Verdict}
 use Rattle.qspi_operation.specs.declared.Verdict.the-variants as verdict
 use Rattle.qspi_operation.specs.Store.{stored}
 use Rattle.qspi_operation.specs.Step.{isGoing, accessOf, answered, choose, sameLengths, going, verdictOf, act, movedBy, counted, noted, taken, written, stepOf, logOf, bufferOf, replyOf}
-use Rattle.qspi_operation.specs.Pass.{isOn, passedBy, opAt, byHow, standsFor}
-use Rattle.qspi_operation.specs.Run.{runAt, fuel, left, Onward}
+use Rattle.qspi_operation.specs.Pass.{isOn, passedBy, opAt, byHow, standsFor, left, Onward}
+use Rattle.qspi_operation.specs.Run.{runAt, fuel}
 use Rattle.qspi_operation.proofs.Runs.{Turn, turn}
 use Rattle.qspi_operation.proofs.Verdicts.{no, Promised, by-verdict, by-access}
 

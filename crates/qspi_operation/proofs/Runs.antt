@@ -22,7 +22,8 @@ use Rattle.qspi_operation.specs.declared.Verdict.{Verdict}
 use Rattle.qspi_operation.specs.declared.Verdict.the-variants.{Ended, Changed, Full, Dry, Made}
 use Rattle.qspi_operation.specs.Store.{when, storeByte, storeReply, stored, isTaking, isReading, skipped}
 use Rattle.qspi_operation.specs.Step.{isGoing, verdictOf, act, moved, movedBy, counted, noted, taken, replyOf, stepOf, logOf, bufferOf}
-use Rattle.qspi_operation.specs.Run.{Run, here, runAt, runOf, fuel, left}
+use Rattle.qspi_operation.specs.Run.{Run, here, runAt, runOf, fuel}
+use Rattle.qspi_operation.specs.Pass.{left}
 use Rattle.qspi_operation.proofs.Verdicts.{no, makes, room, ends}
 
 pub halted : (n : ℕ) (b : Bool) (a : Status) (o : Op) (bytes rs buffer log : List ℕ) → b ≡ false → runAt n b a o bytes rs buffer log ≡ here a o buffer log

@@ -1,4 +1,4 @@
 pub mod Store
 pub mod Step
-pub mod Pass
 pub mod Run
+pub mod Pass

@@ -17,7 +17,7 @@ use Rattle.qspi_operation.specs.Run.{runOf}
 use Rattle.qspi_operation.specs.Step.{programmedOf}
 use Rattle.qspi_operation.specs.Run as by-counters
 use Rattle.qspi_calls.specs.Machine.{Script, Result, valuesIn, countIn, called}
-use Rattle.qspi_calls.specs.Values.{isDone, whenDone}
+use Rattle.qspi_calls.specs.Values.{isDone}
 use Rattle.qspi_calls.proofs.OneTransfer.{register-value, id-values, long-id-values}
 use Rattle.qspi_calls.proofs.LowLevelCalls.{clock-value}
 use Rattle.qspi_calls.proofs.Whole.{Whole, Starts, whole}

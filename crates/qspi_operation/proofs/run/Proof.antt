@@ -6,7 +6,8 @@ use denote.Ref.{now}
 use lib.ListN.{length}
 use Rattle.qspi_operation.specs.Step.{isGoing}
 use Rattle.qspi_script.specs.declared.Status.the-variants.{Going}
-use Rattle.qspi_operation.specs.Run.{Run, runAt, fuel, left}
+use Rattle.qspi_operation.specs.Run.{Run, runAt, fuel}
+use Rattle.qspi_operation.specs.Pass.{left}
 use Rattle.qspi_operation.proofs.Passes.{going-is, same-run, less-left}
 use Rattle.qspi_operation.proofs.Runs.{halted}
 use Rattle.qspi_operation.proofs.run.Statement.{statement}

@@ -2,8 +2,8 @@
 use mathlib.Core.Path.{refl, sym, _∙_}
 use borrow.Author.Needs.{needs}
 use denote.Ref.{now}
-use Rattle.qspi_operation.specs.Pass.{isOn, opAt, standsFor}
-use Rattle.qspi_operation.specs.Run.{fuel, left}
+use Rattle.qspi_operation.specs.Pass.{isOn, opAt, standsFor, left}
+use Rattle.qspi_operation.specs.Run.{fuel}
 use Rattle.qspi_operation.specs.declared.How.the-variants.{On}
 use Rattle.qspi_operation.proofs.Passes.{passedAt, Way, begins, Passing, passing, onward}
 use Rattle.qspi_operation.proofs.transfer.Statement.{statement}

@@ -5,7 +5,7 @@ use Prim.Native.Nat.{_≤_}
 use lib.ListN.{length}
 use native.Mathlib.Omega.{arith}
 use Rattle.io.proofs.Counting.{counts}
-use Rattle.access_log.proofs.Packing.{same-entry}
+use Rattle.access_log.proofs.Packing.{same-place, same-entry}
 use Rattle.access_log.proofs.words.words_in.Statement.{statement}
 use Rattle.access_log.proofs.words.words_in.Tie as tie
 
@@ -24,7 +24,8 @@ returns c =
     let words = c .put-words .last .0 in
     let n = c .before .before .word-count .result in
     let held : n ≤ length words = omega (arith, c .put-words .kept .0) in
-    (counts n words held, λ at h. same-entry bytes words n at held (c .put-words .ensures) (c .before .before .word-count .ensures .1 at h))
+    let count = c .before .before .word-count .ensures in
+    (counts n words held, λ at h. same-entry bytes words n at held (c .put-words .ensures) (same-place n (length bytes) at (count .1 .0) (count .1 .1) h))
 
 pub words-in-spec : {M : Type 1} → statement M
 words-in-spec = tie.close (tie.spec word-count-requires mul-put-words put-words-requires returns)
