@@ -157,7 +157,7 @@ unfolding GivenBy registerAt
 Gives d (access.Read o v) = GivenBy (registerAt o) v d
 Gives d (access.Write o v) = Unit {0}
 
--- ---- demand 3's premise on words, which U2 drops: "all words have gone out before chip select rises"
+-- ---- demand 3's premise on words: "all words have gone out before chip select rises"
 
 abbrev pub NoneLeft : Register → ℕ → Device → Type 0
 NoneLeft config v (device c t u w r f) = high c ≡ false → high v ≡ true → t ++ u ≡ []

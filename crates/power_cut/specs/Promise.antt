@@ -1,4 +1,4 @@
--- The power-cut statement of what the code hands back: the answer, and the log as it lies in memory.
+-- The power-cut statement of what the code hands back: the answer, and the log as it lies in memory (document 01, "Log and printer").
 use Prim.Native.Nat.{ℕ}
 use mathlib.Core.Path.{_≡_}
 use mathlib.Core.List.{List}

@@ -46,8 +46,8 @@ pub record Kept (a : ℕ) (bs : List ℕ) (old : Array) (o : Observed) (new : Ar
 -- ---- the claim about a whole run of write_pages at a, of bs: its accesses, its answer, its count of programmed bytes
 
 pub record PowerCut (a : ℕ) (bs : List ℕ) (log : List Access) (answer : Status) (count : ℕ) : Type 0 where
-  -- "if the power fails before the call's first register access or after any of them": after k accesses, from 0 to all, on whatever device,
-  -- schedule, replies and array. Premises: the device rests before the call, the log so far is a trace of it, all words are out before chip
+  -- "if the power fails before the call's first register access or after any of them": k is 01's cut point, "a number of its accesses, from 0
+  -- to all". On whatever device, schedule, replies and array. Premises: the device rests before the call, the log so far is a trace of it, all words are out before chip
   -- select rises. Whatever the cut leaves:
   pub cut : (k : ℕ) → k ≤ length log → (before after : Device) (old new : Array) → Rests old before → Trace AllOut before (take k log) after
       → AfterCut (flashOf after) new → Kept a bs old (observed (take k log)) new

@@ -1,4 +1,5 @@
--- What it takes for the premises of the power-cut statement to be met by a run that succeeds.
+-- What it takes for the premises of the power-cut statement to be met by a run that succeeds: demand 3, "Premises: ..", on a call that rules 1,
+-- 4 and 5 of document 01 refuse nowhere. `possible` in proofs/ shows it.
 use Prim.Native.Nat.{ℕ, _+_, _%_, _≤_}
 use mathlib.Core.Path.{_≡_}
 use mathlib.Core.List.{List, _++_}

@@ -1,4 +1,4 @@
--- The power-cut statement of the exported `write_pages`.
+-- The power-cut statement, demand 3, of the exported `write_pages`.
 use Prim.Native.Nat.{ℕ}
 use mathlib.Core.Path.{_≡_}
 use mathlib.Core.List.{List}

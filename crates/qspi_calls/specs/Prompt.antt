@@ -1,4 +1,5 @@
--- What a call logs on prompt replies: nothing to drain, each reply ready at once, not busy. A reader's picture of a call as a plain list.
+-- What a call logs on prompt replies: nothing to drain, each reply ready at once, not busy. A reader's picture of a call as a plain list, as
+-- document 01 prints one under "Log and printer"; `PromptLogs` in proofs/ has one of each call.
 use Prim.Native.Nat.{ℕ}
 use mathlib.Core.Path.{_≡_}
 use mathlib.Core.Bool.{Bool, true, false}

@@ -1,5 +1,6 @@
--- How the calls start, by counters: refused, ended, or with the first access of their first transfer due. specs/Calls says what each call
--- does from there.
+-- How the calls start, by counters: refused, ended, or with the first access of their first transfer due. Document 01, "What changes shape":
+-- "an operation is a state by value, ended at its start if no access is due", and the refusals of "What the input can bring on". specs/Calls
+-- says what each call does from there.
 use Prim.Native.Nat.{ℕ, _+_, _%_}
 use mathlib.Core.Bool.{Bool, true, false}
 use lib.Dec.{ltb, eqb}

@@ -1,4 +1,5 @@
--- The driver that is lent: its state, and a whole call through its methods.
+-- The driver that is lent: its state, and a whole call through its methods. Document 01, "What changes shape": "one small driver state lent
+-- to each step and updated".
 use Prim.Native.Nat.{ℕ}
 use mathlib.Core.Bool.{Bool, true, false}
 use mathlib.Core.List.{List}

@@ -1,4 +1,4 @@
--- What a save through the driver promises: that of `power_cut::write_pages`, of the answer and the counts that the driver then holds.
+-- What a save through the driver promises: that of `power_cut::write_pages` (demand 3), of the answer and the counts that the driver then holds.
 use Prim.Native.Nat.{ℕ, _/_}
 use mathlib.Core.Path.{_≡_}
 use mathlib.Core.List.{List}

@@ -1,4 +1,5 @@
--- What a call hands back and leaves in the lent memory, out of its run over lists.
+-- What a call hands back and leaves in the lent memory, out of its run over lists: document 01, "What the state can bring on": "the answer,
+-- the used counts and each lent word or byte afterwards", "Log words past the used ones don't change".
 use Prim.Native.Nat.{ℕ, _*_}
 use mathlib.Core.Path.{_≡_}
 use mathlib.Core.Bool.{cond}
@@ -31,7 +32,7 @@ bufferedOf r buffer = overlaid (bytesIn (r .state)) buffer
 abbrev pub handed : Stepped → Ran
 handed s = record { answer = s .answer; used = s .op .used; replies = s .op .replies }
 
--- a run of the code by counters, but for a buffer that is not lent
+-- a run of the code by counters, but for a buffer that is not lent: for the contracts of the private functions that the calls share
 pub record Ended (s : Stepped) (log : List ℕ) (e : Run) : Type 0 where
   pub op : s .op ≡ e .op
   pub answer : s .answer ≡ e .answer
