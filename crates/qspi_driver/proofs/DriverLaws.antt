@@ -1,16 +1,22 @@
 -- What the definitions of the driver amount to. Assumes nothing.
-use mathlib.Core.Path.{_≡_, refl, ap}
+use mathlib.Core.Path.{_≡_, refl, ap, _∙_}
 use mathlib.Core.Bool.{Bool, true, false}
 use mathlib.Core.List.{List}
-use Prim.Native.Nat.{ℕ}
+use Prim.Native.Nat.{ℕ, _/_, _^_, _<_}
+use lib.ListN.{length}
+use Rattle.qspi_transfer.specs.declared.Wire.{Wire}
 use Rattle.qspi_operation.specs.declared.Op.{Op}
 use Rattle.qspi_operation.specs.Step.{isGoing}
 use Rattle.qspi_operation.specs.Run.{runOf}
 use Rattle.qspi_operation.proofs.Runs.{run-ends}
 use Rattle.qspi_script.specs.declared.Stage.the-variants.{Enable}
+use Rattle.qspi_script.specs.declared.Status.{Status}
+use Rattle.qspi_calls.specs.Machine.{Script, called}
 use Rattle.qspi_calls.specs.Starts.{oneTransfer}
+use Rattle.qspi_calls.proofs.Whole.{Starts, whole}
+use Rattle.qspi_runs.specs.Promise.{loggedOf, bufferedOf}
 use Rattle.qspi_driver.specs.State.{begunIf, begunOf, holds, isUnderWay}
-use Rattle.qspi_driver.specs.Driver.{Driver, idle, reached, drivenIf, drivenOf}
+use Rattle.qspi_driver.specs.Driver.{Driver, Drive, idle, reached, drivenIf, drivenOf}
 use Rattle.qspi_driver.specs.declared.state.State.{State}
 use Rattle.qspi_driver.specs.declared.state.Answer.the-variants.{Given, Busy}
 
@@ -34,6 +40,15 @@ module _ (d : Driver) (o : Op) (bytes replies buffer log : List ℕ) where
   -- THEOREM. A whole call through the methods of a driver at rest is the run of that call: driver, answer, buffer and log.
   pub rest-runs : isGoing (d .state .op .status) ≡ false → drivenOf d o bytes replies buffer log ≡ reached (runOf o bytes replies buffer log)
   rest-runs g = ap (λ (b : Bool). drivenIf b d (runOf o bytes replies buffer log) buffer log) g
+
+  -- THEOREM. And so it is what the call does over lists: of a started operation that stands where its script begins (`Starts`, which
+  -- qspi_calls/proofs has of every start) the script's run gives answer, log and buffer.
+  pub rest-calls : {Values : Status → Wire → List ℕ} (c : Script) → Starts o bytes log buffer Values c → length replies < 2 ^ 64 → isGoing (d .state .op .status) ≡ false
+      → (drivenOf d o bytes replies buffer log .answer ≡ Given (called c (length log / 2) replies .answer)) × ((drivenOf d o bytes replies buffer log .log ≡ loggedOf (called c (length log / 2) replies) log) × (drivenOf d o bytes replies buffer log .buffer ≡ bufferedOf (called c (length log / 2) replies) buffer))
+  rest-calls {Values} c s fits g =
+      let w = whole o bytes replies log buffer Values c fits s in
+      let r = rest-runs g in
+      (ap (λ (x : Drive). x .answer) r ∙ ap Given (w .answer), (ap (λ (x : Drive). x .log) r ∙ w .logged, ap (λ (x : Drive). x .buffer) r ∙ w .stored))
 
   -- through a driver with a call under way it is nothing at all
   pub busy-runs-not : isGoing (d .state .op .status) ≡ true → drivenOf d o bytes replies buffer log ≡ record { driver = d; answer = Busy; buffer = buffer; log = log }
