@@ -50,41 +50,41 @@ is-at : (o n : ℕ) → eqb o n ≡ true → At n → At o
 is-at o n e a = rw (eqb-true o n e) a
 
 register-at : (o : ℕ) → At o
-register-at o = go0 (eqb o 0x00) refl
+register-at o = by-config (eqb o 0x00) refl
   where
-    go7 : (t : Bool) → eqb o 0x88 ≡ t → eqb o 0x00 ≡ false → eqb o 0x04 ≡ false → eqb o 0x14 ≡ false → eqb o 0x20 ≡ false → eqb o 0x1C ≡ false
+    by-three : (t : Bool) → eqb o 0x88 ≡ t → eqb o 0x00 ≡ false → eqb o 0x04 ≡ false → eqb o 0x14 ≡ false → eqb o 0x20 ≡ false → eqb o 0x1C ≡ false
         → eqb o 0x80 ≡ false → eqb o 0x84 ≡ false → At o
-    go7 true e a b c d f g h = is-at o 0x88 e at-three
-    go7 false e a b c d f g h = at-other a b c d f g h e
+    by-three true e a b c d f g h = is-at o 0x88 e at-three
+    by-three false e a b c d f g h = at-other a b c d f g h e
 
-    go6 : (t : Bool) → eqb o 0x84 ≡ t → eqb o 0x00 ≡ false → eqb o 0x04 ≡ false → eqb o 0x14 ≡ false → eqb o 0x20 ≡ false → eqb o 0x1C ≡ false
+    by-two : (t : Bool) → eqb o 0x84 ≡ t → eqb o 0x00 ≡ false → eqb o 0x04 ≡ false → eqb o 0x14 ≡ false → eqb o 0x20 ≡ false → eqb o 0x1C ≡ false
         → eqb o 0x80 ≡ false → At o
-    go6 true e a b c d f g = is-at o 0x84 e at-two
-    go6 false e a b c d f g = go7 (eqb o 0x88) refl a b c d f g e
+    by-two true e a b c d f g = is-at o 0x84 e at-two
+    by-two false e a b c d f g = by-three (eqb o 0x88) refl a b c d f g e
 
-    go5 : (t : Bool) → eqb o 0x80 ≡ t → eqb o 0x00 ≡ false → eqb o 0x04 ≡ false → eqb o 0x14 ≡ false → eqb o 0x20 ≡ false → eqb o 0x1C ≡ false → At o
-    go5 true e a b c d f = is-at o 0x80 e at-one
-    go5 false e a b c d f = go6 (eqb o 0x84) refl a b c d f e
+    by-one : (t : Bool) → eqb o 0x80 ≡ t → eqb o 0x00 ≡ false → eqb o 0x04 ≡ false → eqb o 0x14 ≡ false → eqb o 0x20 ≡ false → eqb o 0x1C ≡ false → At o
+    by-one true e a b c d f = is-at o 0x80 e at-one
+    by-one false e a b c d f = by-two (eqb o 0x84) refl a b c d f e
 
-    go4 : (t : Bool) → eqb o 0x1C ≡ t → eqb o 0x00 ≡ false → eqb o 0x04 ≡ false → eqb o 0x14 ≡ false → eqb o 0x20 ≡ false → At o
-    go4 true e a b c d = is-at o 0x1C e at-four
-    go4 false e a b c d = go5 (eqb o 0x80) refl a b c d e
+    by-four : (t : Bool) → eqb o 0x1C ≡ t → eqb o 0x00 ≡ false → eqb o 0x04 ≡ false → eqb o 0x14 ≡ false → eqb o 0x20 ≡ false → At o
+    by-four true e a b c d = is-at o 0x1C e at-four
+    by-four false e a b c d = by-one (eqb o 0x80) refl a b c d e
 
-    go3 : (t : Bool) → eqb o 0x20 ≡ t → eqb o 0x00 ≡ false → eqb o 0x04 ≡ false → eqb o 0x14 ≡ false → At o
-    go3 true e a b c = is-at o 0x20 e at-rx
-    go3 false e a b c = go4 (eqb o 0x1C) refl a b c e
+    by-rx : (t : Bool) → eqb o 0x20 ≡ t → eqb o 0x00 ≡ false → eqb o 0x04 ≡ false → eqb o 0x14 ≡ false → At o
+    by-rx true e a b c = is-at o 0x20 e at-rx
+    by-rx false e a b c = by-four (eqb o 0x1C) refl a b c e
 
-    go2 : (t : Bool) → eqb o 0x14 ≡ t → eqb o 0x00 ≡ false → eqb o 0x04 ≡ false → At o
-    go2 true e a b = is-at o 0x14 e at-enable
-    go2 false e a b = go3 (eqb o 0x20) refl a b e
+    by-enable : (t : Bool) → eqb o 0x14 ≡ t → eqb o 0x00 ≡ false → eqb o 0x04 ≡ false → At o
+    by-enable true e a b = is-at o 0x14 e at-enable
+    by-enable false e a b = by-rx (eqb o 0x20) refl a b e
 
-    go1 : (t : Bool) → eqb o 0x04 ≡ t → eqb o 0x00 ≡ false → At o
-    go1 true e a = is-at o 0x04 e at-status
-    go1 false e a = go2 (eqb o 0x14) refl a e
+    by-status : (t : Bool) → eqb o 0x04 ≡ t → eqb o 0x00 ≡ false → At o
+    by-status true e a = is-at o 0x04 e at-status
+    by-status false e a = by-enable (eqb o 0x14) refl a e
 
-    go0 : (t : Bool) → eqb o 0x00 ≡ t → At o
-    go0 true e = is-at o 0x00 e at-config
-    go0 false e = go1 (eqb o 0x04) refl e
+    by-config : (t : Bool) → eqb o 0x00 ≡ t → At o
+    by-config true e = is-at o 0x00 e at-config
+    by-config false e = by-status (eqb o 0x04) refl e
 
 -- the same with another transfer at hand
 abbrev replaced : Observed → Transfer → Observed
