@@ -49,11 +49,6 @@ struct Source {
     enabled: bool,
 }
 
-struct After {
-    op: Op,
-    source: Source,
-}
-
 // How a call ended, with the last three replies of its last transfer.
 struct Ended {
     answer: u32,
@@ -72,31 +67,30 @@ fn main() {
     }
 }
 
+fn case(i: u32) {
+    show(numbered(i), mix(i, 1), printed(i));
+}
+
 // Every call in every style, the borders of the refusals, reads by length, `new` by what is asked for,
 // every protection, whole logs, and cuts.
-fn case(i: u32) {
-    let seed = mix(i, 1);
-    if i < 160 {
-        return show(default(i / 8, i % 8), seed, LINE);
+fn numbered(i: u32) -> Trial {
+    match i {
+        0..=159 => default(i / 8, i % 8),
+        160..=213 => border(i - 160),
+        214..=243 => reading(i - 214),
+        244..=275 => asking(i - 244),
+        276..=283 => row(14, i - 276, 0, 1 + (i - 276) % 3),
+        284..=291 => whole_row(i - 284),
+        _ => cut_row(i - 292),
     }
-    if i < 214 {
-        return show(border(i - 160), seed, LINE);
+}
+
+fn printed(i: u32) -> u32 {
+    match i {
+        0..=283 => LINE,
+        284..=291 => WHOLE,
+        _ => CUTS,
     }
-    if i < 244 {
-        return show(reading(i - 214), seed, LINE);
-    }
-    if i < 276 {
-        let k = i - 244;
-        return show(row(13, k / 8, k % 8, 1 + k % 3), seed, LINE);
-    }
-    if i < 284 {
-        let k = i - 276;
-        return show(row(14, k, 0, 1 + k % 3), seed, LINE);
-    }
-    if i < 292 {
-        return show(whole_row(i - 284), seed, WHOLE);
-    }
-    show(cut_row(i - 292), seed, CUTS);
 }
 
 fn row(call: u32, a: u32, b: u32, style: u32) -> Trial {
@@ -107,24 +101,14 @@ fn default(call: u32, style: u32) -> Trial {
     match call {
         0 => row(call, 5, 34, style),
         1 => row(call, 0x8000_016B, 0, style),
-        2 => row(call, 0, 0, style),
-        3 => row(call, 0, 0, style),
-        4 => row(call, 0, 0, style),
-        5 => row(call, 0, 0, style),
-        6 => row(call, 0, 0, style),
         7 => row(call, 231, 0, style),
         8 => row(call, 28, 163, style),
-        9 => row(call, 0, 0, style),
-        10 => row(call, 0, 0, style),
-        11 => row(call, 0, 0, style),
-        12 => row(call, 0, 0, style),
         13 => row(call, 2, 7, style),
         14 => row(call, 5, 0, style),
         15 => row(call, 0x00AB_0000, 0, style),
         16 => row(call, 0x0012_3484, 64, style),
-        17 => row(call, 0x00AB_CDEF, 37, style),
-        18 => row(call, 0x00AB_CDEF, 37, style),
-        _ => row(call, 0x00AB_CDEF, 37, style),
+        17..=19 => row(call, 0x00AB_CDEF, 37, style),
+        _ => row(call, 0, 0, style),
     }
 }
 
@@ -155,6 +139,13 @@ fn border(i: u32) -> Trial {
         22 => row(15, 0x00FF_0004, 0, 2),
         23 => row(15, 0xFFFF_0000, 0, 2),
         24 => row(15, 0xFFFF_FFFF, 0, 2),
+        25..=45 => program_border(i),
+        _ => read_border(i),
+    }
+}
+
+fn program_border(i: u32) -> Trial {
+    match i {
         25 => row(16, 0x00FF_FFFB, 4, 2),
         26 => row(16, 0x00FF_FFFC, 4, 2),
         27 => row(16, 240, 16, 2),
@@ -175,7 +166,12 @@ fn border(i: u32) -> Trial {
         42 => row(16, 0x0100_0000, 0, 2),
         43 => row(16, 0x00FF_FFFE, 241, 2),
         44 => row(16, 0xFFFF_FFFC, 4, 2),
-        45 => row(16, 0xFFFF_FFFF, 0x0000_01F4, 2),
+        _ => row(16, 0xFFFF_FFFF, 0x0000_01F4, 2),
+    }
+}
+
+fn read_border(i: u32) -> Trial {
+    match i {
         46 => row(17, 0xFFFF_FFFF, 0, 1),
         47 => row(17, 0xFFFF_FFFF, 1, 1),
         48 => row(17, 0xFFFF_FFFF, 2, 1),
@@ -190,6 +186,11 @@ fn border(i: u32) -> Trial {
 // A read of each length, by each of the three reads, across the end of the low 24 bits.
 fn reading(i: u32) -> Trial {
     row(17 + i % 3, 0x00FF_FF00, length(i / 3), i % 8)
+}
+
+// `new` with each latency code, asked for each set of things.
+fn asking(i: u32) -> Trial {
+    row(13, i / 8, i % 8, 1 + i % 3)
 }
 
 fn length(i: u32) -> u32 {
@@ -247,22 +248,48 @@ fn cut_row(i: u32) -> Trial {
 // The call's start, over a log of so many words.
 fn start_of(row: Trial, log: usize) -> Op {
     let call = row.call;
-    let a = row.a;
-    let b = row.b;
+    if call < 4 {
+        return controller_call(call, row.a, row.b, log);
+    }
+    if call < 9 {
+        return register_write(call, row.a, row.b, log);
+    }
+    if call < 13 {
+        return register_read(call, log);
+    }
+    flash_call(call, row.a, row.b, log)
+}
+
+fn controller_call(call: u32, a: u32, b: u32, log: usize) -> Op {
     match call {
         0 => initialize(a, b, log),
         1 => start::enable_linear_addressing(a, log),
         2 => start::enable_io_mode(a == 1, log),
-        3 => start::disable(log),
+        _ => start::disable(log),
+    }
+}
+
+fn register_write(call: u32, a: u32, b: u32, log: usize) -> Op {
+    match call {
         4 => start::write_enable(log),
         5 => start::write_disable(log),
         6 => start::clear_status(log),
         7 => start::write_status(byte(a), log),
-        8 => start::write_status_and_config_register(byte(a), byte(b), log),
+        _ => start::write_status_and_config_register(byte(a), byte(b), log),
+    }
+}
+
+fn register_read(call: u32, log: usize) -> Op {
+    match call {
         9 => start::read_status_register_1(log),
         10 => start::read_configuration_register(log),
         11 => start::read_rdid_base(log),
-        12 => start::read_rdid_extended(log),
+        _ => start::read_rdid_extended(log),
+    }
+}
+
+fn flash_call(call: u32, a: u32, b: u32, log: usize) -> Op {
+    match call {
         13 => new(byte(a), b, log),
         14 => start::set_write_protection(byte(a), log),
         15 => start::erase_sector(a, log),
@@ -454,20 +481,23 @@ fn answered(source: Source, due: Asked) -> Source {
     }
 }
 
+// The reply to the access that the operation asks for.
+fn reply_due(op: Op, source: Source, data: &[u8]) -> Source {
+    answered(source, qspi_operation::due(op, data))
+}
+
 // One step. The reply is kept at the place of the next one that is used.
 fn turn(
     op: Op,
-    source: Source,
+    word: u32,
     data: &[u8],
     buffer: &mut [u8],
     log: &mut [u32],
     replies: &mut [u32],
-) -> After {
-    let source = answered(source, qspi_operation::due(op, data));
-    keep(replies, op.replies, source.word);
-    let stepped = qspi_operation::step(op, data, buffer, log, Reply::Word(source.word));
-    let op = stepped.op;
-    After { op, source }
+) -> Op {
+    keep(replies, op.replies, word);
+    let stepped = qspi_operation::step(op, data, buffer, log, Reply::Word(word));
+    stepped.op
 }
 
 fn end_of(op: Op) -> Ended {
@@ -483,29 +513,18 @@ fn end_of(op: Op) -> Ended {
     }
 }
 
-// Steps an operation to its end, for which the turns suffice: each step takes two words of log.
-fn serve(
-    op: Op,
-    source: Source,
-    data: &[u8],
-    buffer: &mut [u8],
-    log: &mut [u32],
-    replies: &mut [u32],
-) -> Ended {
-    let mut o = op;
-    let mut s = source;
-    let mut turns: u32 = 0;
-    while turns < 2100 {
-        let t = turn(o, s, data, buffer, log, replies);
-        o = t.op;
-        s = t.source;
-        turns += 1;
+// Before a call: no reply yet, and a controller that is not enabled.
+fn fresh(style: u32, seed: u32) -> Source {
+    Source {
+        style,
+        seed,
+        word: 0,
+        enabled: false,
     }
-    end_of(o)
 }
 
-// A call on replies by the access due.
-fn served(
+// Steps a call to its end, for which the turns suffice: each step takes two words of log.
+fn serve(
     row: Trial,
     seed: u32,
     data: &[u8],
@@ -513,13 +532,15 @@ fn served(
     log: &mut [u32],
     replies: &mut [u32],
 ) -> Ended {
-    let source = Source {
-        style: row.style,
-        seed,
-        word: 0,
-        enabled: false,
-    };
-    serve(start_of(row, log.len()), source, data, buffer, log, replies)
+    let mut op = start_of(row, log.len());
+    let mut source = fresh(row.style, seed);
+    let mut turns: u32 = 0;
+    while turns < 2100 {
+        source = reply_due(op, source, data);
+        op = turn(op, source.word, data, buffer, log, replies);
+        turns += 1;
+    }
+    end_of(op)
 }
 
 fn least(a: usize, b: usize) -> usize
@@ -528,8 +549,8 @@ fn least(a: usize, b: usize) -> usize
     if a <= b { a } else { b }
 }
 
-// The same, where it is lent the front of the buffer.
-fn served_into(
+// A call on replies by the access due, lent the fronts of the data and the buffer.
+fn served(
     row: Trial,
     seed: u32,
     data: &[u8],
@@ -538,7 +559,14 @@ fn served_into(
     replies: &mut [u32],
 ) -> Ended {
     let len = least(buffer_length(row), buffer.len());
-    served(row, seed, data, &mut buffer[0..len], log, replies)
+    serve(
+        row,
+        seed,
+        front(data, data_length(row)),
+        &mut buffer[0..len],
+        log,
+        replies,
+    )
 }
 
 // A call on a list of replies.
@@ -548,7 +576,7 @@ fn ran(row: Trial, data: &[u8], buffer: &mut [u8], log: &mut [u32], replies: &[u
     end_of(op)
 }
 
-// The same, where it is lent the fronts of the buffer and the log.
+// The same, where it is lent the fronts of the data, the buffer and the log.
 fn ran_into(
     row: Trial,
     room: usize,
@@ -559,7 +587,13 @@ fn ran_into(
 ) -> Ended {
     let len = least(buffer_length(row), buffer.len());
     let within = least(room, log.len());
-    ran(row, data, &mut buffer[0..len], &mut log[0..within], replies)
+    ran(
+        row,
+        front(data, data_length(row)),
+        &mut buffer[0..len],
+        &mut log[0..within],
+        replies,
+    )
 }
 
 // Document 01's four bytes to program, and others.
@@ -569,6 +603,12 @@ fn fill(data: &mut [u8]) {
         data[i] = programmed(i);
         i += 1;
     }
+}
+
+fn lent() -> [u8; 512] {
+    let mut data = [0u8; 512];
+    fill(&mut data);
+    data
 }
 
 fn programmed(i: usize) -> u8 {
@@ -619,40 +659,25 @@ fn summary(end: Ended, log: &[u32], buffer: &[u8]) -> u32 {
     mix(mix(counted, digest(log)), digest_bytes(buffer))
 }
 
-fn measured(
-    row: Trial,
-    room: usize,
-    replies: &[u32],
-    data: &mut [u8],
-    buffer: &mut [u8],
-    log: &mut [u32],
-) -> u32 {
-    fill(data);
-    let end = ran_into(
-        row,
-        room,
-        front(data, data_length(row)),
-        buffer,
-        log,
-        replies,
-    );
+// The call on these replies, with so much room.
+fn measured(row: Trial, room: usize, replies: &[u32], buffer: &mut [u8], log: &mut [u32]) -> u32 {
+    let data = lent();
+    let end = ran_into(row, room, &data, buffer, log, replies);
     summary(end, log, buffer)
 }
 
 // The call once more, on the replies that it used.
 fn again(row: Trial, replies: &[u32]) -> u32 {
-    let mut data = [0u8; 512];
     let mut buffer = [UNTOUCHED_BYTE; 512];
     let mut log = [UNTOUCHED; 4096];
-    measured(row, 4096, replies, &mut data, &mut buffer, &mut log)
+    measured(row, 4096, replies, &mut buffer, &mut log)
 }
 
 // A cut: so many of the replies, and so much room.
 fn point(row: Trial, room: usize, replies: &[u32]) -> u32 {
-    let mut data = [0u8; 512];
     let mut buffer = [UNTOUCHED_BYTE; 512];
     let mut log = [UNTOUCHED; 1024];
-    measured(row, room, replies, &mut data, &mut buffer, &mut log)
+    measured(row, room, replies, &mut buffer, &mut log)
 }
 
 fn text(bytes: &[u8]) {
@@ -670,28 +695,51 @@ fn hex(name: &[u8], word: u32, digits: usize) {
 }
 
 fn name(call: u32) {
-    match call {
-        0 => text(b"initialize"),
-        1 => text(b"enable_linear_addressing"),
-        2 => text(b"enable_io_mode"),
-        3 => text(b"disable"),
-        4 => text(b"write_enable"),
-        5 => text(b"write_disable"),
-        6 => text(b"clear_status"),
-        7 => text(b"write_status"),
-        8 => text(b"write_status_and_config_register"),
-        9 => text(b"read_status_register_1"),
-        10 => text(b"read_configuration_register"),
-        11 => text(b"read_rdid_base"),
-        12 => text(b"read_rdid_extended"),
-        13 => text(b"new"),
-        14 => text(b"set_write_protection"),
-        15 => text(b"erase_sector"),
-        16 => text(b"program"),
-        17 => text(b"read_page_read"),
-        18 => text(b"read_fast_read"),
-        _ => text(b"read_fast_read_dummy"),
+    let names = b"\
+        initialize \
+        enable_linear_addressing \
+        enable_io_mode \
+        disable \
+        write_enable \
+        write_disable \
+        clear_status \
+        write_status \
+        write_status_and_config_register \
+        read_status_register_1 \
+        read_configuration_register \
+        read_rdid_base \
+        read_rdid_extended \
+        new \
+        set_write_protection \
+        erase_sector \
+        program \
+        read_page_read \
+        read_fast_read \
+        read_fast_read_dummy \
+    ";
+    word(names, call);
+}
+
+// The nth of words that end in a space.
+fn word(words: &[u8], n: u32) {
+    let mut left = n;
+    let mut at = 0;
+    while at < words.len() {
+        left = spelled(words[at], left);
+        at += 1;
     }
+}
+
+// Shows the letter where no word is left to pass, and returns how many are. After the word shown, more
+// are left than there will be.
+fn spelled(letter: u8, left: u32) -> u32 {
+    if letter == b' ' {
+        return std::num::wrapping_sub_u32(left, 1);
+    }
+    if left == 0 {
+        text(&[letter]);
+    }
+    left
 }
 
 fn title(row: Trial) {
@@ -701,8 +749,8 @@ fn title(row: Trial) {
     number(b" style ", row.style as usize);
 }
 
-fn answer(end: Ended) {
-    number(b" -> ", end.answer as usize);
+fn answer(n: u32) {
+    number(b" -> ", n as usize);
 }
 
 fn octet(b: u8) {
@@ -719,41 +767,55 @@ fn base(id: BaseDeviceId) {
 
 fn extended(id: ExtendedDeviceId) {
     base(id.base_id());
-    let model = id.model_number_raw();
     octet(id.id_cfi_len());
     octet(id.sector_arch_raw());
     octet(id.family_id());
-    octet(model[0]);
-    octet(model[1]);
+    model(id.model_number_raw());
+}
+
+fn model(number: [u8; 2]) {
+    octet(number[0]);
+    octet(number[1]);
+}
+
+fn register(reply: u32) {
+    hex(b" value ", words::top_byte(reply) as u32, 2);
+}
+
+// What the last three replies say.
+fn read(call: u32, older: u32, old: u32, last: u32) {
+    match call {
+        9 => register(last),
+        10 => register(last),
+        11 => base(BaseDeviceId::from_reply(last)),
+        12 => extended(ExtendedDeviceId::from_replies(older, old, last)),
+        _ => {}
+    }
 }
 
 // What a call that is done has read.
 fn value(call: u32, end: Ended) {
-    if end.answer != 0 {
-        return;
+    if end.answer == 0 {
+        read(call, end.older, end.old, end.last);
     }
-    if call == 9 {
-        return hex(b" value ", words::top_byte(end.last) as u32, 2);
-    }
-    if call == 10 {
-        return hex(b" value ", words::top_byte(end.last) as u32, 2);
-    }
-    if call == 11 {
-        return base(BaseDeviceId::from_reply(end.last));
-    }
-    if call == 12 {
-        return extended(ExtendedDeviceId::from_replies(end.older, end.old, end.last));
-    }
+}
+
+fn counts(used: usize, replies: usize) {
+    number(b" used ", used);
+    number(b" replies ", replies);
+}
+
+fn digests(log: u32, buffer: u32, run: u32) {
+    hex(b" log ", log, 8);
+    hex(b" buffer ", buffer, 8);
+    hex(b" run ", run, 8);
 }
 
 fn line(row: Trial, end: Ended, buffer: &[u8], log: &[u32], replies: &[u32]) {
     title(row);
-    answer(end);
-    number(b" used ", end.used);
-    number(b" replies ", end.replies);
-    hex(b" log ", digest(log), 8);
-    hex(b" buffer ", digest_bytes(buffer), 8);
-    hex(b" run ", again(row, replies), 8);
+    answer(end.answer);
+    counts(end.used, end.replies);
+    digests(digest(log), digest_bytes(buffer), again(row, replies));
     value(row.call, end);
     text(b"\n");
 }
@@ -768,47 +830,19 @@ fn shown(row: Trial, what: u32, end: Ended, buffer: &[u8], log: &[u32], replies:
     }
 }
 
-fn report(
-    row: Trial,
-    seed: u32,
-    what: u32,
-    data: &mut [u8],
-    buffer: &mut [u8],
-    log: &mut [u32],
-    replies: &mut [u32],
-) {
-    fill(data);
-    let end = served_into(
-        row,
-        seed,
-        front(data, data_length(row)),
-        buffer,
-        log,
-        replies,
-    );
+fn show(row: Trial, seed: u32, what: u32) {
+    let data = lent();
+    let mut buffer = [UNTOUCHED_BYTE; 512];
+    let mut log = [UNTOUCHED; 4096];
+    let mut replies = [0u32; 2048];
+    let end = served(row, seed, &data, &mut buffer, &mut log, &mut replies);
     shown(
         row,
         what,
         end,
-        buffer,
-        log,
-        front_words(replies, end.replies),
-    );
-}
-
-fn show(row: Trial, seed: u32, what: u32) {
-    let mut data = [0u8; 512];
-    let mut buffer = [UNTOUCHED_BYTE; 512];
-    let mut log = [UNTOUCHED; 4096];
-    let mut replies = [0u32; 2048];
-    report(
-        row,
-        seed,
-        what,
-        &mut data,
-        &mut buffer,
-        &mut log,
-        &mut replies,
+        &buffer,
+        &log,
+        front_words(&replies, end.replies),
     );
 }
 
@@ -824,11 +858,10 @@ fn accesses(log: &[u32]) {
 
 fn access(first: u32, value: u32) {
     if first < 0x100 {
-        text(b"W");
+        hex(b"W ", first, 2);
     } else {
-        text(b"R");
+        hex(b"R ", first % 0x100, 2);
     }
-    hex(b" ", first % 0x100, 2);
     hex(b" ", value, 8);
     text(b"\n");
 }
@@ -860,18 +893,18 @@ fn cuts(row: Trial, kind: u32, points: usize, replies: &[u32]) -> u32 {
     h
 }
 
-fn cut_line(row: Trial, end: Ended, kind: u32, points: usize, replies: &[u32]) {
+fn cut_line(row: Trial, ended: u32, kind: u32, points: usize, replies: &[u32]) {
     number(b"cut ", kind as usize);
     text(b" ");
     title(row);
-    answer(end);
+    answer(ended);
     number(b" points ", points);
     hex(b" digest ", cuts(row, kind, points, replies), 8);
     text(b"\n");
 }
 
 fn all_cuts(row: Trial, end: Ended, replies: &[u32]) {
-    cut_line(row, end, 0, points(end.replies), replies);
-    cut_line(row, end, 1, points(end.used), replies);
-    cut_line(row, end, 2, 512, replies);
+    cut_line(row, end.answer, 0, points(end.replies), replies);
+    cut_line(row, end.answer, 1, points(end.used), replies);
+    cut_line(row, end.answer, 2, 512, replies);
 }

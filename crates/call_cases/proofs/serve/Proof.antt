@@ -8,13 +8,22 @@ use Rattle.call_cases.proofs.serve.Statement.{statement}
 use Rattle.call_cases.proofs.serve.Tie as tie
 
 abbrev Inv-loop : tie.InvT-loop
-Inv-loop «data» buffer₀ log₀ replies₀ o₀ s₀ turns₀ buffer log replies o s turns = (length buffer ≡ length buffer₀) × ((length log ≡ length log₀) × (length replies ≡ length replies₀))
+Inv-loop seed «data» buffer₀ log₀ replies₀ op₀ source₀ turns₀ buffer log replies op source turns = (length buffer ≡ length buffer₀) × ((length log ≡ length log₀) × (length replies ≡ length replies₀))
 
 abbrev μ-loop : tie.MeasureT-loop
-μ-loop «data» buffer₀ log₀ replies₀ o₀ s₀ turns₀ buffer log replies o s turns = 2100 - turns
+μ-loop seed «data» buffer₀ log₀ replies₀ op₀ source₀ turns₀ buffer log replies op source turns = 2100 - turns
+
+start-of-requires : tie.Need-start-of-requires Inv-loop μ-loop
+start-of-requires c κs = tt
+
+fresh-requires : tie.Need-fresh-requires Inv-loop μ-loop
+fresh-requires c κs = tt
 
 loop-holds : tie.Need-loop-holds Inv-loop μ-loop
 loop-holds c = omega arith
+
+reply-due-requires : tie.Need-reply-due-requires Inv-loop μ-loop
+reply-due-requires c κs = tt
 
 turn-requires : tie.Need-turn-requires Inv-loop μ-loop
 turn-requires c κs = tt
@@ -44,4 +53,4 @@ returns : tie.Need-returns Inv-loop μ-loop
 returns c = tt
 
 pub serve-spec : {M : Type 1} → statement M
-serve-spec = tie.close (tie.spec Inv-loop μ-loop loop-holds turn-requires add-turns loop-less loop-again end-of-requires same-length same-length-2 same-length-3 returns)
+serve-spec = tie.close (tie.spec Inv-loop μ-loop start-of-requires fresh-requires loop-holds reply-due-requires turn-requires add-turns loop-less loop-again end-of-requires same-length same-length-2 same-length-3 returns)
