@@ -19,7 +19,7 @@ fn each(input: &[u8]) {
         title(number);
         sim_console::simulate_text(&input[at..end]);
         number = std::num::wrapping_add_usize(number, 1);
-        at = behind(end, input.len());
+        at = behind(at, end, input.len());
     }
 }
 
@@ -58,10 +58,10 @@ fn dashes(rest: &[u8]) -> bool {
     rest[0] == b'-' && rest[1] == b'-' && rest[2] == b'-' && rest[3] == b'-' && rest[4] == b'\n'
 }
 
-// The place behind the dashes.
-fn behind(end: usize, len: usize) -> usize
-    requires { ⌜ end ≤ len ⌝ }
-    ensures further { λ r. ⌜ (end ≤ r) × (r ≤ len) ⌝ }
+// The place behind the dashes, or the end of the input: past where the request began.
+fn behind(from: usize, end: usize, len: usize) -> usize
+    requires { ⌜ (from < len) × (from ≤ end) × (end ≤ len) ⌝ }
+    ensures further { λ r. ⌜ (from < r) × (r ≤ len) ⌝ }
 {
     if len - end < 5 { len } else { end + 5 }
 }
