@@ -30,7 +30,7 @@ pub record Way (s : State) (d : Device) (l : List Access) (t : State) (e : Devic
   pub plays : Plays s l t
   pub trace : Trace AllOut d l e
 
-trace-append : {d e g : Device} {l m : List Access} → Trace AllOut d l e → Trace AllOut e m g → Trace AllOut d (l ++ m) g
+pub trace-append : {d e g : Device} {l m : List Access} → Trace AllOut d l e → Trace AllOut e m g → Trace AllOut d (l ++ m) g
 trace-append still u = u
 trace-append (quiet s t) u = quiet s (trace-append t u)
 trace-append (step i o t) u = step i o (trace-append t u)

@@ -6,19 +6,19 @@ use mathlib.Core.Bool.{Bool, true, false, cond, true≢false}
 use mathlib.Core.List.{List, [], _∷_, _++_, append-assoc, append-nil}
 use native.Mathlib.Omega.{arith}
 use lib.Dec.{eqb, ltb}
-use lib.ListN.{length, getD, take, drop, length-append, length-take}
-use lib.Seq.{slice, slice-cons, slice-empty, sets, length-sets, sets-eq, length-take-le, take-append-seam, take-at}
-use borrow.Author.Tests.{lt-ltb, le-ltb, ltb-true, ltb-false, eqb-true, eqb-false, eq-eqb, ne-eqb}
+use lib.ListN.{length, getD, take, drop, length-append}
+use lib.Seq.{slice, slice-cons, slice-empty, sets, length-sets, sets-eq, length-take-le, take-at}
+use borrow.Author.Tests.{lt-ltb, ltb-true, ltb-false, eqb-true, eqb-false, ne-eqb}
 use Rattle.zynq7000.specs.Bits.{isSet, clear}
 use Rattle.zynq7000.specs.declared.qspi.Access.{Access}
 use Rattle.zynq7000.specs.declared.qspi.Access.the-variants as access
 use Rattle.zedboard_bsp.specs.Words.{bytesOf}
 use Rattle.power_cut.specs.Flash.{Flash, execute}
-use Rattle.power_cut.specs.Controller.{Register, config, status, enable, rx, other, tx, registerAt, bytesOut, high, configured, effect, someWait, Oldest, GivenBy, Gives, AllOut, Trace, still, quiet, step}
+use Rattle.power_cut.specs.Controller.{Register, config, status, enable, rx, other, tx, registerAt, bytesOut, high, configured, effect, someWait, Oldest, GivenBy, Gives, AllOut, Trace, still, step}
 use Rattle.power_cut.specs.Controller as controller
 use Rattle.power_cut.proofs.Control.{join}
 use Rattle.power_cut.proofs.Levels.{high-stored}
-use Rattle.simulated_device.specs.Simulated.{Sim, simOf, noWords, wordOut, canGoNow, passed, outFor, allOut, given, takenFrom, afterTake, interruptStatus, answered, readOf, widthAt, After, writeOf, wrote}
+use Rattle.simulated_device.specs.Simulated.{Sim, simOf, noWords, wordOut, canGoNow, passed, outFor, allOut, takenFrom, afterTake, interruptStatus, answered, readOf, widthAt, After, writeOf, wrote}
 use Rattle.simulated_device.specs.Simulated as sim
 use Rattle.simulated_device.specs.Running.{afterRead, afterWrite}
 use Rattle.simulated_device.specs.declared.Device.{Device}
@@ -124,9 +124,6 @@ answers : (s : Sim) (e : controller.Device) → Stands s e → (o : ℕ) → Lea
 unfolding GivenBy controller.afterRead registerAt
 answers s e (stands {ws} {t} {u} {f} h k) o = zero₁ (eqb o 0x00) refl
   where
-    here : controller.Device
-    here = controller.device (s .device .config) t u (join ws) (slice (s .device .rx .taken) (s .device .rx .put) (s .received)) f
-
     Goal : Type 0
     Goal = Leads (controller.device (s .device .config) t u (join ws) (slice (s .device .rx .taken) (s .device .rx .put) (s .received)) f) (access.Read o (answered (s .device) o (s .received) .value) ∷ []) (answeredSim s o)
 
@@ -195,10 +192,6 @@ written-by e o v s a st = record { after = effect e (access.Write o v); standing
 to-config : (e : controller.Device) (v : ℕ) (s : Sim) → controller.NoneLeft config v e → Stands s (controller.afterWrite config v e) → Leads e (access.Write 0x00 v ∷ []) s
 unfolding AllOut effect registerAt
 to-config e v s a st = written-by e 0x00 v s a st
-
-none-in : {A : Type 0} (l : List A) → length l ≡ 0 → l ≡ []
-none-in [] h = refl
-none-in (a ∷ l) h = absurd (omega arith)
 
 join-append : (t u : List (List ℕ)) → join (t ++ u) ≡ join t ++ join u
 join-append [] u = refl
@@ -301,26 +294,20 @@ module _ (s : Sim) (v : ℕ) (down : high (s .device .config) ≡ false) (rises 
           made refl (record { after = end; standing = stands fits holds; trace = step {d = here} {a = access.Write 0x00 v} tt (λ low up. refl) goes })
       go y stopped = not-made refl (nowhere (stands h k))
 
--- words that are not out: none where as many are out as are written
-none-left : (s : Sim) (ws t u : List (List ℕ)) → Fits s ws t u → s .device .tx .out ≡ s .device .tx .written → (t ≡ []) × (u ≡ [])
-none-left s ws t u h e = (none-in t (omega (arith, h .outs, h .all)), none-in u (omega (arith, h .outs, h .all)))
-
+-- every word is out where as many are out as are written
 rises : (s : Sim) (v : ℕ) → high (s .device .config) ≡ false → high v ≡ true → (e : controller.Device) → Stands s e → Attempt e (access.Write 0x00 v) (sim.risen s v)
 rises s v down up e st = go (eqb (s .device .tx .out) (s .device .tx .written)) refl e st
   where
-    all : s .device .tx .out ≡ s .device .tx .written → (ws t u : List (List ℕ)) (f : Flash) → Fits s ws t u → Holds (s .device .chip) (s .device .choices .base) (s .array) f → (t ≡ []) → (u ≡ [])
+    all : s .device .tx .out ≡ s .device .tx .written → (ws t u : List (List ℕ)) (f : Flash) → Fits s ws t u → Holds (s .device .chip) (s .device .choices .base) (s .array) f
         → Attempt (controller.device (s .device .config) t u (join ws) (slice (s .device .rx .taken) (s .device .rx .put) (s .received)) f) (access.Write 0x00 v)
         (sim.afterExecuted (sim.executed (s .device) v (s .sent) (s .array)) s)
-    all e ws [] [] f h k et eu = rise s v down up ws f h k
-    all e ws [] (c ∷ u) f h k et eu = absurd (omega (arith, h .outs, h .all))
-    all e ws (c ∷ t) u f h k et eu = absurd (omega (arith, h .outs, h .all))
+    all e ws [] [] f h k = rise s v down up ws f h k
+    all e ws [] (c ∷ u) f h k = absurd (omega (arith, h .outs, h .all))
+    all e ws (c ∷ t) u f h k = absurd (omega (arith, h .outs, h .all))
 
     go : (b : Bool) → eqb (s .device .tx .out) (s .device .tx .written) ≡ b → (e : controller.Device) → Stands s e
         → Attempt e (access.Write 0x00 v) (cond b (sim.afterExecuted (sim.executed (s .device) v (s .sent) (s .array)) s) (sim.afterOf (sim.refusal (s .device)) s))
-    go true q e (stands {ws} {t} {u} {f} h k) =
-        let n = eqb-true (s .device .tx .out) (s .device .tx .written) q in
-        let l = none-left s ws t u h n in
-        all n ws t u f h k (l .0) (l .1)
+    go true q e (stands {ws} {t} {u} {f} h k) = all (eqb-true (s .device .tx .out) (s .device .tx .written) q) ws t u f h k
     go false q e st = not-made refl (nowhere st)
 
 config-kept : (n : ℕ) (s : Sim) → outFor n s .device .config ≡ s .device .config

@@ -1,5 +1,5 @@
 -- What the simulated flash does when chip select rises is what the bytes sent ask of the flash. Assumes nothing.
-use Prim.Native.Nat.{ℕ, suc, _+_, _-_, _*_, _/_, _≤_, _<_}
+use Prim.Native.Nat.{ℕ, _+_, _-_, _*_, _/_, _≤_, _<_}
 use mathlib.Core.Path.{_≡_, refl, sym, ap, _∙_}
 use mathlib.Core.Bool.{Bool, true, false, cond}
 use mathlib.Core.Option.{none, some}
@@ -8,8 +8,7 @@ use native.Mathlib.Omega.{arith}
 use lib.Dec.{eqb, ltb}
 use lib.ListN.{length, getD, take, drop, length-drop}
 use lib.Seq.{getD-take, getD-drop, length-take-le}
-use borrow.Author.Tests.{lt-ltb, le-ltb, ltb-true, ltb-false, eqb-true, eqb-false, eq-eqb, ne-eqb}
-use Rattle.qspi_calls.specs.Chunks.{Chunk}
+use borrow.Author.Tests.{lt-ltb, ltb-true, ltb-false, eqb-true, eqb-false, eq-eqb, ne-eqb}
 use Rattle.power_cut.specs.Flash.{Array, Command, writeEnable, writeDisable, pageProgram, sectorErase, addressOf, commandOf, programOf, eraseOf, Flash, flash, obey, execute, settles}
 use Rattle.power_cut.specs.Flash as model
 use Rattle.power_cut.specs.Controller.{AllOut, Trace, still, quiet, idle}

@@ -1,9 +1,9 @@
 -- Every run against the simulated device is a trace that the power-cut statement speaks of: each step of the driver logs the access that the
 -- device saw, and a step that makes none leaves the device as it is. Assumes nothing.
-use Prim.Native.Nat.{ℕ, zero, suc, _+_, _-_, _≤_, _<_}
+use Prim.Native.Nat.{ℕ, zero, suc, _+_, _-_, _≤_}
 use mathlib.Core.Path.{_≡_, refl, sym, ap, _∙_, subst}
 use mathlib.Core.Bool.{Bool, true, false, cond, _&&_, true≢false}
-use mathlib.Core.Option.{none, some}
+use mathlib.Core.Option.{none}
 use mathlib.Core.List.{List, [], _∷_, _++_, append-assoc, append-nil}
 use native.Mathlib.Omega.{arith}
 use lib.Dec.{eqb, ltb, leb}
@@ -26,18 +26,18 @@ use Rattle.qspi_operation.specs.declared.Reply.{Reply}
 use Rattle.qspi_operation.specs.declared.Reply.the-variants.{Word, Nothing}
 use Rattle.qspi_operation.specs.declared.Verdict.{Verdict}
 use Rattle.qspi_operation.specs.declared.Verdict.the-variants.{Ended, Changed, Full, Dry, Made}
-use Rattle.qspi_operation.specs.Step.{isGoing, accessOf, shown, pickAsked, dueOf, answered, choose, sameLengths, going, verdictOf, act, moved, movedBy, counted, noted, written, stepOf, logOf, bufferOf}
+use Rattle.qspi_operation.specs.Step.{isGoing, accessOf, shown, pickAsked, dueOf, answered, choose, sameLengths, verdictOf, act, movedBy, counted, noted, written}
 use Rattle.qspi_operation.proofs.Runs.{kept, buffer-kept}
 use Rattle.qspi_operation.proofs.Verdicts.{makes}
-use Rattle.power_cut.specs.Flash.{Array, Work, programming, erasing, done, erased, programmed, lands, anded, Spares, Flash, flash, AfterCut}
-use Rattle.power_cut.specs.Controller.{AllOut, Trace, still, Rests, rests, flashOf}
+use Rattle.power_cut.specs.Flash.{Array, Work, programming, erasing, done, erased, programmed, Spares, flash, AfterCut}
+use Rattle.power_cut.specs.Controller.{still, Rests, rests, flashOf}
 use Rattle.power_cut.specs.Controller as controller
 use Rattle.simulated_device.specs.Replies.{byteAt}
 use Rattle.simulated_device.specs.Simulated.{Sim, simOf, atRest, readOf, writeOf}
-use Rattle.simulated_device.specs.Running.{Turn, simIn, stepped, afterRead, afterWrite, metOn, dueIn, afterMeeting, turnOf, goesOn, turns, simulated, beginning}
+use Rattle.simulated_device.specs.Running.{Turn, simIn, stepped, afterRead, afterWrite, metOn, afterMeeting, turnOf, goesOn, turns, simulated, beginning}
 use Rattle.simulated_device.specs.Instance.{Instance}
 use Rattle.simulated_device.specs.declared.Choices.{Choices}
-use Rattle.simulated_device.proofs.Standing.{Holds, resting, working, Fits, Stands, stands, Leads, nowhere, on}
+use Rattle.simulated_device.proofs.Standing.{resting, working, Stands, stands, Leads, nowhere, on}
 use Rattle.simulated_device.proofs.Accesses.{reads, Attempt, made, not-made, writes}
 use Rattle.simulated_device.proofs.Kept.{read-choices, write-choices}
 

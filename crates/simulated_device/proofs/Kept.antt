@@ -1,17 +1,16 @@
 -- The device's choices, the part of the array that is lent among them, stay as they are. Assumes nothing.
 use Prim.Native.Nat.{ℕ, zero, suc, _-_}
-use mathlib.Core.Path.{_≡_, refl, ap, _∙_}
+use mathlib.Core.Path.{_≡_, refl, _∙_}
 use mathlib.Core.Bool.{Bool, true, false, cond}
 use mathlib.Core.List.{List}
 use lib.Dec.{eqb, ltb}
 use lib.ListN.{length}
 use Rattle.power_cut.specs.Controller.{high}
-use Rattle.simulated_device.specs.Simulated.{Sim, simOf, wordOut, withTx, waited, canGoNow, passed, outFor, allOut, takenFrom, answered, readOf, widthAt, askedFor, within, executed, works, sending, risen, raised, configured, wrote, writeOf, After}
+use Rattle.simulated_device.specs.Simulated.{Sim, wordOut, canGoNow, passed, outFor, allOut, answered, readOf, widthAt, askedFor, within, executed, sending, risen, raised, configured, wrote, writeOf, After}
 use Rattle.simulated_device.specs.Simulated as sim
 use Rattle.simulated_device.specs.declared.Choices.{Choices}
 use Rattle.simulated_device.specs.declared.Device.{Device}
 use Rattle.simulated_device.specs.declared.Given.{Given}
-use Rattle.simulated_device.specs.declared.work.Work.{Work}
 
 -- one of two that have the same
 either : {A B : Type 0} (f : A → B) (b : Bool) {x y : A} {z : B} → f x ≡ z → f y ≡ z → f (cond b x y) ≡ z

@@ -10,9 +10,10 @@ use lib.ListN.{length, take}
 use lib.Seq.{slice}
 use Rattle.zynq7000.specs.declared.qspi.Access.{Access}
 use Rattle.power_cut.specs.Flash.{Array, Work, done, Flash, flash}
-use Rattle.power_cut.specs.Controller.{high, AllOut, Trace, still, quiet, step}
+use Rattle.power_cut.specs.Controller.{high, AllOut, Trace, still}
 use Rattle.power_cut.specs.Controller as controller
 use Rattle.power_cut.proofs.Control.{join}
+use Rattle.power_cut.proofs.Ways.{trace-append}
 use Rattle.simulated_device.specs.Replies.{byteAt}
 use Rattle.simulated_device.specs.Simulated.{Sim}
 use Rattle.simulated_device.specs.declared.Chip.{Chip}
@@ -49,11 +50,6 @@ pub record Leads (e : controller.Device) (l : List Access) (s : Sim) : Type 0 wh
   pub after : controller.Device
   pub standing : Stands s after
   pub trace : Trace AllOut e l after
-
-pub trace-append : {d e g : controller.Device} {l m : List Access} → Trace AllOut d l e → Trace AllOut e m g → Trace AllOut d (l ++ m) g
-trace-append still u = u
-trace-append (quiet s t) u = quiet s (trace-append t u)
-trace-append (step i o t) u = step i o (trace-append t u)
 
 pub nowhere : {e : controller.Device} {s : Sim} → Stands s e → Leads e [] s
 nowhere {e} h = record { after = e; standing = h; trace = still }

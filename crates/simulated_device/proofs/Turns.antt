@@ -1,13 +1,12 @@
 -- A turn of a run, by the access that is due and the device's answer, and the turns of the run's loop. Assumes nothing.
-use Prim.Native.Nat.{ℕ, zero, suc, _-_, _<_, _≤_}
+use Prim.Native.Nat.{ℕ, zero, suc, _-_}
 use mathlib.Core.Path.{_≡_, refl, sym, ap, subst, _∙_}
 use mathlib.Core.Bool.{Bool, true, false, cond}
 use mathlib.Core.List.{List}
 use native.Mathlib.Omega.{arith}
-use borrow.Author.Tests.{lt-ltb, le-ltb}
 use lib.Dec.{ltb}
 use lib.ListN.{length}
-use Rattle.qspi_operation.specs.Step.{dueOf, stepOf, logOf, bufferOf, sameLengths}
+use Rattle.qspi_operation.specs.Step.{stepOf, logOf, bufferOf, sameLengths}
 use Rattle.qspi_operation.specs.declared.Asked.{Asked}
 use Rattle.qspi_operation.specs.declared.Asked.the-variants as asked
 use Rattle.qspi_operation.specs.declared.Op.{Op}

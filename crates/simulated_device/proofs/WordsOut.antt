@@ -7,15 +7,15 @@ use mathlib.Core.List.{List, [], _∷_, _++_, append-assoc, append-nil}
 use native.Mathlib.Omega.{arith}
 use lib.Dec.{eqb, ltb}
 use lib.ListN.{length, getD, set, take, length-append, length-set, List·getD-append}
-use lib.Seq.{slice, take-suc-set, getD-take, length-take-le, drop-append-le, slice-empty}
+use lib.Seq.{slice, take-suc-set, getD-take, length-take-le, drop-append-le}
 use borrow.Author.Tests.{lt-ltb, le-ltb, ltb-true, eqb-true, eqb-false, eq-eqb}
 use Rattle.zedboard_bsp.specs.Words.{wordOf}
-use Rattle.power_cut.specs.Flash.{Flash, flash, busy, settles}
-use Rattle.power_cut.specs.Controller.{high, isStatusRead, showsBusy, showsProgramError, showsEraseError, Shows, out, idle, AllOut, Trace, still, quiet}
+use Rattle.power_cut.specs.Flash.{Flash, busy, settles}
+use Rattle.power_cut.specs.Controller.{isStatusRead, showsBusy, showsProgramError, showsEraseError, Shows, out, idle, AllOut, Trace, still, quiet}
 use Rattle.power_cut.specs.Controller as controller
 use Rattle.power_cut.proofs.Control.{join}
 use Rattle.simulated_device.specs.Replies.{statusOf, replyOf}
-use Rattle.simulated_device.specs.Simulated.{Sim, simOf, shown, canGo, canGoNow, wordOut, withTx, waited, passed, outFor, allOut}
+use Rattle.simulated_device.specs.Simulated.{Sim, simOf, shown, canGoNow, wordOut, withTx, waited, passed, outFor, allOut}
 use Rattle.simulated_device.specs.declared.Chip.{Chip}
 use Rattle.simulated_device.proofs.Steps.{released-not-out, has-room}
 use Rattle.simulated_device.proofs.Standing.{Holds, resting, working, Fits, Stands, stands, stands-as, Leads, nowhere, on}

@@ -1,6 +1,6 @@
 -- What the simulated device answers to a word: document 01, "The flash, as defined here", where it fixes a reply, and the S25FL256S datasheet
 -- (status register 1, read, read id) where it leaves one free.
-use Prim.Native.Nat.{ℕ, _+_, _-_, _*_, _/_, _%_}
+use Prim.Native.Nat.{ℕ, _+_, _-_, _*_, _%_}
 use mathlib.Core.Bool.{cond}
 use mathlib.Core.List.{List, [], _∷_}
 use lib.Dec.{eqb, ltb}
