@@ -1,130 +1,98 @@
-// The calls that a request can name, by the Rust's names; what they need; how they start.
-use crate::request::Request;
-use crate::words;
+// The calls that a request can name, by the Rust's names and by their places in this table; what they take;
+// how they start.
+use crate::items;
+use crate::request;
 use qspi_calls::start;
 use qspi_operation::Op;
 
-pub enum Call {
-    Unknown,
-    WriteEnable,
-    WriteDisable,
-    ClearStatus,
-    Disable,
-    ReadStatusRegister1,
-    ReadConfigurationRegister,
-    ReadRdidBase,
-    ReadRdidExtended,
-    EraseSector,
-    Program,
-    WritePages,
-    ReadPageRead,
-    ReadFastRead,
+pub const NAMES: [u8; 196] = *b"\
+    write_enable|\
+    write_disable|\
+    clear_status|\
+    disable|\
+    read_status_register_1|\
+    read_configuration_register|\
+    read_rdid_base|\
+    read_rdid_extended|\
+    erase_sector|\
+    program|\
+    write_pages|\
+    read_page_read|\
+    read_fast_read|\
+";
+
+pub const READ_STATUS_REGISTER_1: usize = 4;
+
+pub const READ_CONFIGURATION_REGISTER: usize = 5;
+
+pub const READ_RDID_BASE: usize = 6;
+
+pub const READ_RDID_EXTENDED: usize = 7;
+
+pub const ERASE_SECTOR: usize = 8;
+
+pub const PROGRAM: usize = 9;
+
+pub const WRITE_PAGES: usize = 10;
+
+pub const READ_PAGE_READ: usize = 11;
+
+pub const READ_FAST_READ: usize = 12;
+
+pub const CALLS: usize = 13;
+
+pub fn programs(call: usize) -> bool {
+    call == PROGRAM || call == WRITE_PAGES
 }
 
-// The items that a call takes: all but the last it needs too.
-pub struct Arguments {
-    pub address: bool,
-    pub data: bool,
-    pub length: bool,
-    pub dummy: bool,
-}
-
-pub fn named(word: &[u8]) -> Call {
-    if words::same(word, b"write_enable") {
-        return Call::WriteEnable;
+// Whether the call takes an item. What it takes it needs, but for `dummy`.
+pub fn takes(call: usize, item: usize) -> bool {
+    if item == items::ADDRESS {
+        return ERASE_SECTOR <= call;
     }
-    if words::same(word, b"write_disable") {
-        return Call::WriteDisable;
+    if item == items::DATA {
+        return programs(call);
     }
-    if words::same(word, b"clear_status") {
-        return Call::ClearStatus;
-    }
-    if words::same(word, b"disable") {
-        return Call::Disable;
-    }
-    if words::same(word, b"read_status_register_1") {
-        return Call::ReadStatusRegister1;
-    }
-    if words::same(word, b"read_configuration_register") {
-        return Call::ReadConfigurationRegister;
-    }
-    if words::same(word, b"read_rdid_base") {
-        return Call::ReadRdidBase;
-    }
-    if words::same(word, b"read_rdid_extended") {
-        return Call::ReadRdidExtended;
-    }
-    array_call(word)
-}
-
-fn array_call(word: &[u8]) -> Call {
-    if words::same(word, b"erase_sector") {
-        return Call::EraseSector;
-    }
-    if words::same(word, b"program") {
-        return Call::Program;
-    }
-    if words::same(word, b"write_pages") {
-        return Call::WritePages;
-    }
-    if words::same(word, b"read_page_read") {
-        return Call::ReadPageRead;
-    }
-    if words::same(word, b"read_fast_read") {
-        return Call::ReadFastRead;
-    }
-    Call::Unknown
-}
-
-pub fn is_known(call: Call) -> bool {
-    if let Call::Unknown = call {
-        false
+    if item == items::LENGTH {
+        READ_PAGE_READ <= call
     } else {
-        true
-    }
-}
-
-impl Arguments {
-    fn new(address: bool, data: bool, length: bool, dummy: bool) -> Arguments {
-        Arguments {
-            address,
-            data,
-            length,
-            dummy,
-        }
-    }
-}
-
-pub fn takes(call: Call) -> Arguments {
-    match call {
-        Call::EraseSector => Arguments::new(true, false, false, false),
-        Call::Program => Arguments::new(true, true, false, false),
-        Call::WritePages => Arguments::new(true, true, false, false),
-        Call::ReadPageRead => Arguments::new(true, false, true, false),
-        Call::ReadFastRead => Arguments::new(true, false, true, true),
-        _ => Arguments::new(false, false, false, false),
+        call == READ_FAST_READ
     }
 }
 
 // The operation of a request, on memory of these lengths.
-pub fn begin(request: Request, data: usize, buffer: usize, log: usize) -> Op {
-    let call = request.call;
-    let address = request.address;
+pub fn begin(request: &[usize], data: usize, buffer: usize, log: usize) -> Op {
+    let call = items::of(request, items::CALL);
+    let address = request::address(request);
     match call {
-        Call::WriteEnable => start::write_enable(log),
-        Call::WriteDisable => start::write_disable(log),
-        Call::ClearStatus => start::clear_status(log),
-        Call::ReadStatusRegister1 => start::read_status_register_1(log),
-        Call::ReadConfigurationRegister => start::read_configuration_register(log),
-        Call::ReadRdidBase => start::read_rdid_base(log),
-        Call::ReadRdidExtended => start::read_rdid_extended(log),
-        Call::EraseSector => start::erase_sector(address, log),
-        Call::Program => start::program(address, data, log),
-        Call::WritePages => start::write_pages(address, data, log),
-        Call::ReadPageRead => start::read_page_read(address, buffer, log),
-        Call::ReadFastRead => start::read_fast_read(address, request.dummy, buffer, log),
-        Call::Disable => start::disable(log),
-        // Never: such a request is refused.
-        Call::Unknown => start::disable(log),
+        0..=3 => begin_command(call, log),
+        4..=7 => begin_register_read(call, log),
+        8 => start::erase_sector(address, log),
+        9 => start::program(address, data, log),
+        10 => start::write_pages(address, data, log),
+        11 => start::read_page_read(address, buffer, log),
+        _ => {
+            let dummy = items::of(request, items::DUMMY) == 1;
+            start::read_fast_read(address, dummy, buffer, log)
+        }
+    }
+}
+
+fn begin_command(call: usize, log: usize) -> Op {
+    match call {
+        0 => start::write_enable(log),
+        1 => start::write_disable(log),
+        2 => start::clear_status(log),
+        _ => start::disable(log),
+    }
+}
+
+// The reads of a register or an id.
+fn begin_register_read(call: usize, log: usize) -> Op {
+    match call {
+        4 => start::read_status_register_1(log),
+        5 => start::read_configuration_register(log),
+        6 => start::read_rdid_base(log),
+        _ => start::read_rdid_extended(log),
     }
 }

@@ -6,7 +6,9 @@ use qspi_transfer::Phase;
 use simulated_device::run::Ran;
 
 pub struct Ended {
-    pub answer: Status,
+    // Document 01's number, and whether the call is done.
+    pub answer: u32,
+    pub done: bool,
     pub used: usize,
     pub replies: usize,
     pub programmed: usize,
@@ -20,7 +22,7 @@ pub struct Ended {
     pub last: u32,
 }
 
-pub fn is_done(status: Status) -> bool {
+fn is_done(status: Status) -> bool {
     if let Status::Done = status {
         true
     } else {
@@ -36,16 +38,21 @@ fn is_last(phase: Phase) -> bool {
     }
 }
 
-// Whether chip select has risen after the erase command. It is told by where the operation stands,
-// since the observer of the log watches page programs.
-fn is_erasing(op: Op) -> bool {
+// Whether chip select has risen after the erase command, and the status loop has not ended. It is told by
+// where the operation stands, since the observer of the log watches page programs.
+fn is_erasing(op: Op, is_done: bool) -> bool {
+    let job = op.job;
+    let script = job.script;
     let place = op.place;
     let wire = op.wire;
     let stage = place.stage;
     let phase = wire.phase;
+    if is_done {
+        return false;
+    }
     match stage {
         Stage::Erase => is_last(phase),
-        Stage::Poll => true,
+        Stage::Poll => script.erasing,
         _ => false,
     }
 }
@@ -54,13 +61,15 @@ pub fn of_run(ran: Ran) -> Ended {
     let op = ran.op;
     let wire = op.wire;
     let answer = ran.answer;
+    let done = is_done(answer);
     Ended {
-        answer,
+        answer: answer.number(),
+        done,
         used: op.used,
         replies: op.replies,
         programmed: qspi_operation::programmed(op),
         refused: ran.refused,
-        erasing: is_erasing(op),
+        erasing: is_erasing(op, done),
         older: wire.older,
         old: wire.old,
         last: wire.last,

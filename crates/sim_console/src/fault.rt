@@ -1,137 +1,91 @@
-// What is wrong with a request, and the line that says so.
-use crate::text::decimal;
-use crate::text::text;
+// What is wrong with a request, by its place in the table of the words for it, and the line that says so.
+use crate::items;
+use printing::decimal;
+use printing::entry;
+use printing::text;
 
-// The items of a request.
-pub enum Item {
-    Call,
-    Address,
-    Data,
-    Length,
-    Dummy,
-    Busy,
-    Gap,
-    Log,
-    Replies,
-    Cut,
-    Holds,
-    Unknown,
-}
+const WORDS: [u8; 461] = *b"\
+    |\
+    the input has more than 32767 bytes|\
+    the line has more than 1024 bytes|\
+    unknown item|\
+    given a second time|\
+    the value is missing|\
+    more than one value|\
+    unknown call|\
+    not a hex number|\
+    not a decimal number|\
+    an odd number of hex digits|\
+    more than 8 hex digits|\
+    number too large, at most |\
+    more than 4096 bytes of data|\
+    neither yes nor no|\
+    no call is named|\
+    missing, this call needs it|\
+    this call does not take it|\
+    outside of the 131072 bytes from the start of the call's sector on|\
+";
 
-pub enum Wrong {
-    Nothing,
-    LongInput,
-    LongLine,
-    UnknownItem,
-    Again,
-    NoValue,
-    MoreWords,
-    UnknownCall,
-    NotHex,
-    NotDecimal,
-    OddDigits,
-    LongAddress,
-    // The most that the item takes.
-    TooLarge(usize),
-    TooMuchData,
-    NeitherYesNorNo,
-    NoCall,
-    Needed,
-    NotTaken,
-    Outside,
-}
+pub const NOTHING: usize = 0;
+
+pub const LONG_INPUT: usize = 1;
+
+pub const LONG_LINE: usize = 2;
+
+pub const UNKNOWN_ITEM: usize = 3;
+
+pub const AGAIN: usize = 4;
+
+pub const NO_VALUE: usize = 5;
+
+pub const MORE_WORDS: usize = 6;
+
+pub const UNKNOWN_CALL: usize = 7;
+
+pub const NOT_HEX: usize = 8;
+
+pub const NOT_DECIMAL: usize = 9;
+
+pub const ODD_DIGITS: usize = 10;
+
+pub const LONG_ADDRESS: usize = 11;
+
+pub const TOO_LARGE: usize = 12;
+
+pub const TOO_MUCH_DATA: usize = 13;
+
+pub const NEITHER_YES_NOR_NO: usize = 14;
+
+pub const NO_CALL: usize = 15;
+
+pub const NEEDED: usize = 16;
+
+pub const NOT_TAKEN: usize = 17;
+
+pub const OUTSIDE: usize = 18;
 
 pub struct Fault {
-    pub wrong: Wrong,
-    pub item: Item,
+    pub wrong: usize,
+    pub item: usize,
     pub line: usize,
 }
 
 impl Fault {
-    pub fn new(wrong: Wrong, item: Item, line: usize) -> Fault {
+    pub fn new(wrong: usize, item: usize, line: usize) -> Fault {
         Fault { wrong, item, line }
     }
-
-    pub fn is_there(self) -> bool {
-        let wrong = self.wrong;
-        if let Wrong::Nothing = wrong {
-            false
-        } else {
-            true
-        }
-    }
 }
 
-pub fn print(fault: Fault) {
-    let item = fault.item;
-    let wrong = fault.wrong;
-    decimal(b"line ", fault.line);
+pub fn print(wrong: usize, item: usize, line: usize) {
+    decimal(b"line ", line);
     text(b": ");
-    name(item);
-    words(wrong);
+    if item < items::ITEMS {
+        entry(&items::NAMES, item);
+        text(b": ");
+    }
+    entry(&WORDS, wrong);
+    if wrong == TOO_LARGE {
+        decimal(b"", items::most(item));
+    }
     text(b"\n");
-}
-
-fn name(item: Item) {
-    match item {
-        Item::Call => text(b"call: "),
-        Item::Address => text(b"address: "),
-        Item::Data => text(b"data: "),
-        Item::Length => text(b"length: "),
-        Item::Dummy => text(b"dummy: "),
-        Item::Holds => text(b"holds: "),
-        _ => name_of_choice(item),
-    }
-}
-
-// The items that say how device and run behave.
-fn name_of_choice(item: Item) {
-    match item {
-        Item::Busy => text(b"busy: "),
-        Item::Gap => text(b"gap: "),
-        Item::Log => text(b"log: "),
-        Item::Replies => text(b"replies: "),
-        Item::Cut => text(b"cut: "),
-        _ => text(b""),
-    }
-}
-
-fn words(wrong: Wrong) {
-    match wrong {
-        Wrong::LongInput => text(b"the input has more than 32767 bytes"),
-        Wrong::LongLine => text(b"the line has more than 1024 bytes"),
-        Wrong::UnknownItem => text(b"unknown item"),
-        Wrong::Again => text(b"given a second time"),
-        Wrong::NoValue => text(b"the value is missing"),
-        Wrong::MoreWords => text(b"more than one value"),
-        _ => words_of_value(wrong),
-    }
-}
-
-// A value that the item does not take.
-fn words_of_value(wrong: Wrong) {
-    match wrong {
-        Wrong::UnknownCall => text(b"unknown call"),
-        Wrong::NotHex => text(b"not a hex number"),
-        Wrong::NotDecimal => text(b"not a decimal number"),
-        Wrong::OddDigits => text(b"an odd number of hex digits"),
-        Wrong::LongAddress => text(b"more than 8 hex digits"),
-        Wrong::NeitherYesNorNo => text(b"neither yes nor no"),
-        _ => words_of_whole(wrong),
-    }
-}
-
-// Too much, or what does not go with the call.
-fn words_of_whole(wrong: Wrong) {
-    match wrong {
-        Wrong::TooLarge(most) => decimal(b"number too large, at most ", most),
-        Wrong::TooMuchData => text(b"more than 4096 bytes of data"),
-        Wrong::NoCall => text(b"no call is named"),
-        Wrong::Needed => text(b"missing, this call needs it"),
-        Wrong::NotTaken => text(b"this call does not take it"),
-        Wrong::Outside => text(
-            b"outside of the 131072 bytes from the start of the call's sector on",
-        ),
-        _ => text(b""),
-    }
 }

@@ -1,106 +1,69 @@
-// What the lines of a request said so far.
-ghost use Prim.Native.Nat.{_<_};
-use crate::calls;
-use crate::calls::Call;
-use crate::fault::Fault;
-use crate::fault::Item;
-use crate::fault::Wrong;
+// The items of a request, by their places in the table of their names. What the lines say of them stands
+// in two lent slices: the value of each, and the line that it was on, 0 where there was none.
+pub const NAMES: [u8; 62] = *b"call|address|data|length|dummy|busy|gap|log|replies|cut|holds|";
 
-const ITEMS: usize = 12;
+pub const CALL: usize = 0;
 
-// The value of each item, and the line that it was on, 0 where there was none.
-pub struct Items {
-    pub call: Call,
-    pub values: [usize; ITEMS],
-    pub lines: [usize; ITEMS],
-    pub fault: Fault,
+pub const ADDRESS: usize = 1;
+
+pub const DATA: usize = 2;
+
+pub const LENGTH: usize = 3;
+
+pub const DUMMY: usize = 4;
+
+pub const BUSY: usize = 5;
+
+pub const GAP: usize = 6;
+
+pub const LOG: usize = 7;
+
+pub const REPLIES: usize = 8;
+
+pub const CUT: usize = 9;
+
+pub const HOLDS: usize = 10;
+
+pub const UNKNOWN: usize = 11;
+
+pub const ITEMS: usize = 11;
+
+// Bytes of data, or to be read.
+pub const MOST_BYTES: usize = 4096;
+
+// Accesses that the log has room for.
+pub const MOST_ACCESSES: usize = 16384;
+
+// No limit: no run has as many replies.
+pub const UNLIMITED: usize = 0xFFFF_FFFF;
+
+// `cut all`.
+pub const EVERY: usize = 0xFFFF_FFFF;
+
+// No cut is asked for.
+pub const NEVER: usize = 0x1_0000_0000;
+
+// The values before the first line.
+pub const DEFAULTS: [usize; ITEMS] = [0, 0, 0, 0, 1, 0, 0, MOST_ACCESSES, UNLIMITED, NEVER, 0];
+
+pub fn of(said: &[usize], item: usize) -> usize {
+    if item < said.len() { said[item] } else { 0 }
 }
 
-fn place(item: Item) -> usize
-    ensures place { λ r. ⌜ r < 12 ⌝ }
-{
-    match item {
-        Item::Call => 0,
-        Item::Address => 1,
-        Item::Data => 2,
-        Item::Length => 3,
-        Item::Dummy => 4,
-        Item::Busy => 5,
-        Item::Gap => 6,
-        Item::Log => 7,
-        Item::Replies => 8,
-        Item::Cut => 9,
-        Item::Holds => 10,
-        Item::Unknown => 11,
+pub fn put(said: &mut [usize], item: usize, n: usize) {
+    if item < said.len() {
+        said[item] = n;
     }
 }
 
-pub fn nothing() -> Items {
-    Items {
-        call: Call::Unknown,
-        values: [0; ITEMS],
-        lines: [0; ITEMS],
-        fault: Fault::new(Wrong::Nothing, Item::Unknown, 0),
+// The greatest number that an item takes.
+pub fn most(item: usize) -> usize {
+    if item == LENGTH {
+        return MOST_BYTES;
     }
-}
-
-pub fn with_fault(items: Items, wrong: Wrong, item: Item, line: usize) -> Items {
-    let call = items.call;
-    let values = items.values;
-    let lines = items.lines;
-    Items {
-        call,
-        values,
-        lines,
-        fault: Fault::new(wrong, item, line),
-    }
-}
-
-pub fn with_value(items: Items, item: Item, value: usize, line: usize) -> Items {
-    let at = place(item);
-    let mut next = items;
-    next.values[at] = value;
-    next.lines[at] = line;
-    next
-}
-
-pub fn with_call(items: Items, call: Call, line: usize) -> Items {
-    if !calls::is_known(call) {
-        return with_fault(items, Wrong::UnknownCall, Item::Call, line);
-    }
-    let next = with_value(items, Item::Call, 0, line);
-    let values = next.values;
-    let lines = next.lines;
-    let fault = next.fault;
-    Items {
-        call,
-        values,
-        lines,
-        fault,
-    }
-}
-
-pub fn is_bad(items: Items) -> bool {
-    let fault = items.fault;
-    fault.is_there()
-}
-
-pub fn line_of(items: Items, item: Item) -> usize {
-    let at = place(item);
-    let lines = items.lines;
-    lines[at]
-}
-
-pub fn value_of(items: Items, item: Item) -> usize {
-    let at = place(item);
-    let values = items.values;
-    values[at]
-}
-
-pub fn value_or(items: Items, item: Item, default: usize) -> usize {
-    if line_of(items, item) == 0 {
-        default
+    if item == LOG || item == CUT {
+        MOST_ACCESSES
     } else {
-        value_of(items, item)
+        UNLIMITED
     }
 }

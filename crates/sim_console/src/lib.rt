@@ -2,14 +2,9 @@
 // says (`request`): the run is printed (`report`), or the one line that says what is wrong (`fault`).
 ghost use Prim.Native.Nat.{_≤_};
 use crate::ended::Ended;
-use crate::fault::Fault;
-use crate::fault::Item;
-use crate::fault::Wrong;
-use crate::lines::ACCESSES;
-use crate::lines::DATA;
-use crate::request::Cut;
+use crate::items::MOST_ACCESSES;
+use crate::items::MOST_BYTES;
 use crate::request::PART;
-use crate::request::Request;
 use crate::words::least;
 use libc::STDIN_FILENO;
 use simulated_device::Choices;
@@ -22,7 +17,6 @@ mod lines;
 mod numbers;
 mod report;
 mod request;
-mod text;
 mod words;
 
 const INPUT: usize = 32768;
@@ -35,7 +29,7 @@ pub fn simulate_input() {
     if len < INPUT {
         simulate_text(&input[..len]);
     } else {
-        fault::print(Fault::new(Wrong::LongInput, Item::Unknown, last_line(&input)));
+        fault::print(fault::LONG_INPUT, items::UNKNOWN, last_line(&input));
     }
 }
 
@@ -54,21 +48,15 @@ fn last_line(input: &[u8]) -> usize {
 
 // A request that is at hand as text.
 pub fn simulate_text(input: &[u8]) {
-    let mut data = [0u8; DATA];
-    let items = request::read(input, &mut data);
-    let fault = items.fault;
-    if fault.is_there() {
-        return fault::print(fault);
-    }
+    let mut values = items::DEFAULTS;
+    let mut lines = [0usize; items::ITEMS];
+    let mut data = [0u8; MOST_BYTES];
     let mut array = [0xFFu8; PART];
-    let items = request::hold(items, input, &mut array);
-    let fault = items.fault;
-    if fault.is_there() {
-        return fault::print(fault);
+    let read = request::read(input, &mut values, &mut lines, &mut data, &mut array);
+    if read.wrong != fault::NOTHING {
+        return fault::print(read.wrong, read.item, read.line);
     }
-    let request = request::request_of(items);
-    let len = least(request.data, DATA);
-    simulate(request, &data[0..len], &mut array);
+    simulate(&values, &data, &mut array);
 }
 
 fn copy(from: &[u8], to: &mut [u8]) {
@@ -80,29 +68,30 @@ fn copy(from: &[u8], to: &mut [u8]) {
 }
 
 // The call is lent its memory; what the array held is kept beside it.
-fn simulate(request: Request, data: &[u8], array: &mut [u8]) {
+fn simulate(request: &[usize], data: &[u8], array: &mut [u8]) {
     let mut before = [0u8; PART];
-    let mut buffer = [0u8; DATA];
+    let mut buffer = [0u8; MOST_BYTES];
     let mut log = [0u32; WORDS];
     copy(array, &mut before);
-    let len = least(request.length, DATA);
+    let data = words::part(data, 0, items::of(request, items::DATA));
+    let len = least(items::of(request, items::LENGTH), MOST_BYTES);
     lent(request, data, &mut buffer[0..len], &mut log, &before, array);
 }
 
 fn lent(
-    request: Request,
+    request: &[usize],
     data: &[u8],
     buffer: &mut [u8],
     log: &mut [u32],
     before: &[u8],
     array: &mut [u8],
 ) {
-    let cut = request.cut;
-    let room = request.log;
-    match cut {
-        Cut::Never => whole(request, room, data, buffer, log, before, array),
-        Cut::After(k) => whole(request, least(k, room), data, buffer, log, before, array),
-        Cut::Every => cuts(request, room, data, buffer, log, before, array),
+    let cut = items::of(request, items::CUT);
+    let room = items::of(request, items::LOG);
+    if cut == items::EVERY {
+        cuts(request, room, data, buffer, log, before, array);
+    } else {
+        whole(request, least(cut, room), data, buffer, log, before, array);
     }
 }
 
@@ -110,11 +99,19 @@ fn lent(
 fn words_of(accesses: usize, log: usize) -> usize
     ensures within { λ r. ⌜ r ≤ log ⌝ }
 {
-    least(least(accesses, ACCESSES) * 2, log)
+    least(least(accesses, MOST_ACCESSES) * 2, log)
+}
+
+fn choices(request: &[usize]) -> Choices {
+    Choices {
+        busy_reads: request::word(items::of(request, items::BUSY)),
+        gap: request::word(items::of(request, items::GAP)),
+        base: request::base_of(request),
+    }
 }
 
 fn run(
-    request: Request,
+    request: &[usize],
     data: &[u8],
     buffer: &mut [u8],
     log: &mut [u32],
@@ -122,16 +119,10 @@ fn run(
 ) -> Ended {
     let mut sent = [0u8; 256];
     let mut received = [0u32; 128];
-    let op = calls::begin(request, data.len(), buffer.len(), log.len());
-    let device = simulated_device::at_rest(Choices {
-        busy_reads: request.busy,
-        gap: request.gap,
-        base: request::base_of(request.address),
-    });
     ended::of_run(simulated_device::run::run(
-        op,
-        device,
-        request.replies,
+        calls::begin(request, data.len(), buffer.len(), log.len()),
+        simulated_device::at_rest(choices(request)),
+        items::of(request, items::REPLIES),
         data,
         buffer,
         log,
@@ -143,7 +134,7 @@ fn run(
 
 // A run with room for so many accesses: a cut after K accesses is a run that had room for K.
 fn whole(
-    request: Request,
+    request: &[usize],
     room: usize,
     data: &[u8],
     buffer: &mut [u8],
@@ -158,7 +149,7 @@ fn whole(
 
 // The whole run, for how many accesses it makes; then every cut of it.
 fn cuts(
-    request: Request,
+    request: &[usize],
     room: usize,
     data: &[u8],
     buffer: &mut [u8],
@@ -174,11 +165,11 @@ fn cuts(
         cut_at(request, k, data, buffer, log, before, array);
         k += 1;
     }
-    report::refused(ended);
+    report::refused(ended.refused, ended.used);
 }
 
 fn cut_at(
-    request: Request,
+    request: &[usize],
     point: usize,
     data: &[u8],
     buffer: &mut [u8],

@@ -1,31 +1,13 @@
-// The lines of a request: each says one item.
+// The lines of a request: each says one item. A function that reads one gives what is wrong with it.
 use crate::calls;
-use crate::fault::Item;
-use crate::fault::Wrong;
-use crate::items::Items;
-use crate::items::is_bad;
-use crate::items::line_of;
-use crate::items::value_of;
-use crate::items::with_call;
-use crate::items::with_fault;
-use crate::items::with_value;
+use crate::fault;
+use crate::fault::Fault;
+use crate::items;
 use crate::numbers;
-use crate::numbers::Bytes;
-use crate::numbers::Outcome;
 use crate::numbers::Parsed;
 use crate::words;
 
-pub const DATA: usize = 4096;
-
-pub const ACCESSES: usize = 16384;
-
-const LINE: usize = 1024;
-
-// No limit: no run has as many replies.
-pub const UNLIMITED: usize = 0xFFFF_FFFF;
-
-// `cut all`.
-pub const ALL: usize = 0xFFFF_FFFF;
+const LONGEST: usize = 1024;
 
 // Where the part of the array begins and ends: known once all items are read.
 pub struct Part {
@@ -34,66 +16,19 @@ pub struct Part {
     pub end: usize,
 }
 
-// What they said, and how many they are.
-pub struct Lines {
-    pub items: Items,
-    pub count: usize,
-}
-
 enum Value {
     Is(usize),
-    Bad(Wrong),
+    Bad(usize),
 }
 
-// ---- items and their values
-
-fn item_named(word: &[u8]) -> Item {
-    if words::same(word, b"call") {
-        return Item::Call;
-    }
-    if words::same(word, b"address") {
-        return Item::Address;
-    }
-    if words::same(word, b"data") {
-        return Item::Data;
-    }
-    if words::same(word, b"length") {
-        return Item::Length;
-    }
-    if words::same(word, b"dummy") {
-        return Item::Dummy;
-    }
-    if words::same(word, b"holds") {
-        return Item::Holds;
-    }
-    of_the_run(word)
-}
-
-fn of_the_run(word: &[u8]) -> Item {
-    if words::same(word, b"busy") {
-        return Item::Busy;
-    }
-    if words::same(word, b"gap") {
-        return Item::Gap;
-    }
-    if words::same(word, b"log") {
-        return Item::Log;
-    }
-    if words::same(word, b"replies") {
-        return Item::Replies;
-    }
-    if words::same(word, b"cut") {
-        return Item::Cut;
-    }
-    Item::Unknown
-}
+// ---- values
 
 fn at_most(word: &[u8], most: usize) -> Value {
     match numbers::number(word, false) {
-        Parsed::NotOne => Value::Bad(Wrong::NotDecimal),
+        Parsed::NotOne => Value::Bad(fault::NOT_DECIMAL),
         Parsed::Value(n) => {
             if most < n {
-                return Value::Bad(Wrong::TooLarge(most));
+                return Value::Bad(fault::TOO_LARGE);
             }
             Value::Is(n)
         }
@@ -102,219 +37,227 @@ fn at_most(word: &[u8], most: usize) -> Value {
 
 fn address(word: &[u8]) -> Value {
     if 8 < word.len() {
-        return Value::Bad(Wrong::LongAddress);
+        return Value::Bad(fault::LONG_ADDRESS);
     }
     match numbers::number(word, true) {
-        Parsed::NotOne => Value::Bad(Wrong::NotHex),
+        Parsed::NotOne => Value::Bad(fault::NOT_HEX),
         Parsed::Value(n) => Value::Is(n),
     }
 }
 
-fn yes_or_no(word: &[u8]) -> Value {
-    if words::same(word, b"yes") {
-        return Value::Is(1);
+// A place in a table that has so many entries.
+fn one_of(place: usize, entries: usize, wrong: usize) -> Value {
+    if place < entries {
+        Value::Is(place)
+    } else {
+        Value::Bad(wrong)
     }
-    if words::same(word, b"no") {
-        return Value::Is(0);
-    }
-    Value::Bad(Wrong::NeitherYesNorNo)
 }
 
 fn cut_point(word: &[u8]) -> Value {
     if words::same(word, b"all") {
-        return Value::Is(ALL);
+        return Value::Is(items::EVERY);
     }
-    at_most(word, ACCESSES)
+    at_most(word, items::MOST_ACCESSES)
 }
 
-fn value_in(item: Item, word: &[u8]) -> Value {
-    match item {
-        Item::Address => address(word),
-        Item::Length => at_most(word, DATA),
-        Item::Dummy => yes_or_no(word),
-        Item::Log => at_most(word, ACCESSES),
-        Item::Cut => cut_point(word),
-        _ => at_most(word, UNLIMITED),
+fn value_in(item: usize, word: &[u8]) -> Value {
+    if item == items::CALL {
+        let place = words::place(&calls::NAMES, word);
+        return one_of(place, calls::CALLS, fault::UNKNOWN_CALL);
     }
+    if item == items::DUMMY {
+        let place = words::place(b"no|yes|", word);
+        return one_of(place, 2, fault::NEITHER_YES_NOR_NO);
+    }
+    if item == items::ADDRESS {
+        return address(word);
+    }
+    if item == items::CUT {
+        return cut_point(word);
+    }
+    at_most(word, items::most(item))
 }
 
 // ---- lines
 
-fn with_word(items: Items, item: Item, word: &[u8], line: usize) -> Items {
-    if let Item::Call = item {
-        return with_call(items, calls::named(word), line);
-    }
-    match value_in(item, word) {
-        Value::Is(value) => with_value(items, item, value, line),
-        Value::Bad(wrong) => with_fault(items, wrong, item, line),
-    }
-}
-
 // An item with one value.
-fn single(items: Items, item: Item, text: &[u8], at: usize, line: usize) -> Items {
+fn single(
+    item: usize,
+    text: &[u8],
+    at: usize,
+    line: usize,
+    values: &mut [usize],
+    lines: &mut [usize],
+) -> usize {
     let word = words::word_from(text, at);
     let more = words::word_from(text, word.to);
-    if line_of(items, item) != 0 {
-        return with_fault(items, Wrong::Again, item, line);
+    if items::of(lines, item) != 0 {
+        return fault::AGAIN;
     }
     if word.is_none() {
-        return with_fault(items, Wrong::NoValue, item, line);
+        return fault::NO_VALUE;
     }
     if !more.is_none() {
-        return with_fault(items, Wrong::MoreWords, item, line);
+        return fault::MORE_WORDS;
     }
-    with_word(items, item, words::word_in(text, word), line)
-}
-
-fn of_outcome(outcome: Outcome) -> Wrong {
-    match outcome {
-        Outcome::Fine => Wrong::Nothing,
-        Outcome::NotHex => Wrong::NotHex,
-        Outcome::OddDigits => Wrong::OddDigits,
+    items::put(lines, item, line);
+    match value_in(item, words::word_in(text, word)) {
+        Value::Is(n) => {
+            items::put(values, item, n);
+            fault::NOTHING
+        }
+        Value::Bad(wrong) => wrong,
     }
 }
 
 // The bytes of a `data` line, behind those of the lines before it.
-fn with_data(items: Items, text: &[u8], at: usize, line: usize, data: &mut [u8]) -> Items {
-    let before = value_of(items, Item::Data);
-    let bytes = numbers::put_bytes(words::part(text, at, text.len()), data, before);
-    let outcome = bytes.outcome;
-    let count = std::num::wrapping_add_usize(before, bytes.count);
-    let items = with_fault(items, of_outcome(outcome), Item::Data, line);
-    if is_bad(items) {
-        return items;
-    }
-    if DATA < count {
-        return with_fault(items, Wrong::TooMuchData, Item::Data, line);
-    }
-    with_value(items, Item::Data, count, line)
-}
-
-// The bytes of a `holds` line. As long as the part is not known they are looked at, and not kept.
-fn with_held(
-    items: Items,
+fn further_data(
     text: &[u8],
     at: usize,
     line: usize,
-    part: Part,
-    array: &mut [u8],
-) -> Items {
+    values: &mut [usize],
+    lines: &mut [usize],
+    data: &mut [u8],
+) -> usize {
+    let before = items::of(values, items::DATA);
+    let bytes = numbers::put_bytes(words::part(text, at, text.len()), data, before);
+    let count = std::num::wrapping_add_usize(before, bytes.count);
+    items::put(lines, items::DATA, line);
+    items::put(values, items::DATA, count);
+    if bytes.wrong != fault::NOTHING {
+        return bytes.wrong;
+    }
+    if items::MOST_BYTES < count {
+        fault::TOO_MUCH_DATA
+    } else {
+        fault::NOTHING
+    }
+}
+
+// The bytes of a `holds` line. As long as the part is not known they are looked at, and not kept.
+fn held(text: &[u8], at: usize, part: Part, array: &mut [u8]) -> usize {
     let word = words::word_from(text, at);
     if word.is_none() {
-        return with_fault(items, Wrong::NoValue, Item::Holds, line);
+        return fault::NO_VALUE;
     }
     match address(words::word_in(text, word)) {
-        Value::Bad(wrong) => with_fault(items, wrong, Item::Holds, line),
-        Value::Is(from) => {
-            let rest = words::part(text, word.to, text.len());
-            held_from(items, rest, from, line, part, array)
-        }
+        Value::Bad(wrong) => wrong,
+        Value::Is(from) => held_from(words::part(text, word.to, text.len()), from, part, array),
     }
 }
 
-fn held_from(
-    items: Items,
-    rest: &[u8],
-    from: usize,
-    line: usize,
-    part: Part,
-    array: &mut [u8],
-) -> Items {
+fn held_from(rest: &[u8], from: usize, part: Part, array: &mut [u8]) -> usize {
     let start = std::num::wrapping_sub_usize(from, part.base);
     let bytes = numbers::put_bytes(rest, array, start);
-    let outcome = bytes.outcome;
-    let items = with_fault(items, of_outcome(outcome), Item::Holds, line);
-    if is_bad(items) {
-        return items;
+    if bytes.wrong != fault::NOTHING {
+        return bytes.wrong;
     }
     if bytes.count == 0 {
-        return with_fault(items, Wrong::NoValue, Item::Holds, line);
+        return fault::NO_VALUE;
     }
-    if lies_within(part, from, bytes) {
-        return items;
+    if lies_within(part, from, bytes.count) {
+        fault::NOTHING
+    } else {
+        fault::OUTSIDE
     }
-    with_fault(items, Wrong::Outside, Item::Holds, line)
 }
 
-fn lies_within(part: Part, from: usize, bytes: Bytes) -> bool {
+fn lies_within(part: Part, from: usize, count: usize) -> bool {
     if !part.known {
         return true;
     }
     if from < part.base {
         return false;
     }
-    std::num::wrapping_add_usize(from, bytes.count) <= part.end
+    std::num::wrapping_add_usize(from, count) <= part.end
+}
+
+// The item that a line is of.
+fn item_in(text: &[u8]) -> usize {
+    words::place(
+        &items::NAMES,
+        words::word_in(text, words::word_from(text, 0)),
+    )
+}
+
+// A line that says nothing: it is blank, or begins with #.
+fn is_silent(text: &[u8]) -> bool {
+    let word = words::word_from(text, 0);
+    if word.is_none() {
+        return true;
+    }
+    words::byte_at(text, word.from) == b'#'
 }
 
 // Once the part is known, only the `holds` lines are left.
-fn with_item(
-    items: Items,
-    item: Item,
+fn of_item(
+    item: usize,
     text: &[u8],
-    at: usize,
     line: usize,
     part: Part,
+    values: &mut [usize],
+    lines: &mut [usize],
     data: &mut [u8],
     array: &mut [u8],
-) -> Items {
-    if let Item::Holds = item {
-        return with_held(items, text, at, line, part, array);
+) -> usize {
+    let word = words::word_from(text, 0);
+    if item == items::HOLDS {
+        return held(text, word.to, part, array);
     }
     if part.known {
-        return items;
+        return fault::NOTHING;
     }
-    match item {
-        Item::Unknown => with_fault(items, Wrong::UnknownItem, Item::Unknown, line),
-        Item::Data => with_data(items, text, at, line, data),
-        _ => single(items, item, text, at, line),
+    if item == items::UNKNOWN {
+        return fault::UNKNOWN_ITEM;
     }
+    if item == items::DATA {
+        return further_data(text, word.to, line, values, lines, data);
+    }
+    single(item, text, word.to, line, values, lines)
 }
 
-fn with_line(
-    items: Items,
+fn of_line(
     text: &[u8],
     line: usize,
     part: Part,
+    values: &mut [usize],
+    lines: &mut [usize],
     data: &mut [u8],
     array: &mut [u8],
-) -> Items {
-    let word = words::word_from(text, 0);
-    if is_bad(items) {
-        return items;
+) -> Fault {
+    if LONGEST < text.len() {
+        return Fault::new(fault::LONG_LINE, items::UNKNOWN, line);
     }
-    if LINE < text.len() {
-        return with_fault(items, Wrong::LongLine, Item::Unknown, line);
+    if is_silent(text) {
+        return Fault::new(fault::NOTHING, items::UNKNOWN, line);
     }
-    if word.is_none() {
-        return items;
-    }
-    if words::byte_at(text, word.from) == b'#' {
-        return items;
-    }
-    let item = item_named(words::word_in(text, word));
-    with_item(items, item, text, word.to, line, part, data, array)
+    let item = item_in(text);
+    let wrong = of_item(item, text, line, part, values, lines, data, array);
+    Fault::new(wrong, item, line)
 }
 
-// Reads the lines, up to the first that is bad.
-pub fn read(items: Items, input: &[u8], part: Part, data: &mut [u8], array: &mut [u8]) -> Lines {
-    let mut x = items;
+// Reads the lines, up to the first that is bad; where none is, the last line is told.
+pub fn read(
+    input: &[u8],
+    part: Part,
+    values: &mut [usize],
+    lines: &mut [usize],
+    data: &mut [u8],
+    array: &mut [u8],
+) -> Fault {
+    let mut last = Fault::new(fault::NOTHING, items::UNKNOWN, 0);
     let mut at = 0;
     let mut line = 0;
     while at < input.len() {
         let end = words::past(input, at, b'\n', false);
-        line += 1;
-        x = with_line(
-            x,
-            words::without_cr(&input[at..end]),
-            line,
-            part,
-            data,
-            array,
-        );
+        let text = words::without_cr(&input[at..end]);
         at = end + 1;
+        line += 1;
+        last = of_line(text, line, part, values, lines, data, array);
+        if last.wrong != fault::NOTHING {
+            return last;
+        }
     }
-    Lines {
-        items: x,
-        count: line,
-    }
+    last
 }

@@ -1,23 +1,17 @@
 // The numbers and the bytes that words say.
 ghost use Prim.Native.Nat.{_≤_};
+use crate::fault;
 
 pub enum Parsed {
     Value(usize),
     NotOne,
 }
 
-// What bytes in hex come to.
-pub enum Outcome {
-    Fine,
-    NotHex,
-    OddDigits,
-}
-
-// How many bytes were read, and the digit that waits for its second.
+// How many bytes were read, the digit that waits for its second, and what is wrong with them.
 pub struct Bytes {
     pub count: usize,
     pub half: u8,
-    pub outcome: Outcome,
+    pub wrong: usize,
 }
 
 // No digit.
@@ -79,20 +73,8 @@ pub fn number(word: &[u8], hex: bool) -> Parsed {
 }
 
 impl Bytes {
-    fn new(count: usize, half: u8, outcome: Outcome) -> Bytes {
-        Bytes {
-            count,
-            half,
-            outcome,
-        }
-    }
-}
-
-fn is_fine(outcome: Outcome) -> bool {
-    if let Outcome::Fine = outcome {
-        true
-    } else {
-        false
+    fn new(count: usize, half: u8, wrong: usize) -> Bytes {
+        Bytes { count, half, wrong }
     }
 }
 
@@ -108,47 +90,40 @@ fn pair(first: u8, second: u8) -> u8 {
 
 // One character more. A pair of digits is put behind those before it, where there is room.
 fn with_character(b: Bytes, c: u8, out: &mut [u8], from: usize) -> Bytes {
-    let outcome = b.outcome;
     let d = digit(c);
-    if !is_fine(outcome) {
+    if b.wrong != fault::NOTHING {
         return b;
     }
     if c == b' ' {
         return at_word_end(b);
     }
     if d == NONE {
-        return Bytes::new(b.count, NONE, Outcome::NotHex);
+        return Bytes::new(b.count, NONE, fault::NOT_HEX);
     }
     if b.half == NONE {
-        return Bytes::new(b.count, d, Outcome::Fine);
+        return Bytes::new(b.count, d, fault::NOTHING);
     }
     put(
         out,
         std::num::wrapping_add_usize(from, b.count),
         pair(b.half, d),
     );
-    Bytes::new(
-        std::num::wrapping_add_usize(b.count, 1),
-        NONE,
-        Outcome::Fine,
-    )
+    let count = std::num::wrapping_add_usize(b.count, 1);
+    Bytes::new(count, NONE, fault::NOTHING)
 }
 
 fn at_word_end(b: Bytes) -> Bytes {
-    let outcome = b.outcome;
-    if !is_fine(outcome) {
-        return b;
+    if b.wrong == fault::NOTHING {
+        if b.half != NONE {
+            return Bytes::new(b.count, NONE, fault::ODD_DIGITS);
+        }
     }
-    if b.half == NONE {
-        b
-    } else {
-        Bytes::new(b.count, NONE, Outcome::OddDigits)
-    }
+    b
 }
 
 // Puts the bytes that words of pairs of hex digits say from a place of `out` on.
 pub fn put_bytes(line: &[u8], out: &mut [u8], from: usize) -> Bytes {
-    let mut b = Bytes::new(0, NONE, Outcome::Fine);
+    let mut b = Bytes::new(0, NONE, fault::NOTHING);
     let mut i = 0;
     while i < line.len() {
         b = with_character(b, line[i], out, from);

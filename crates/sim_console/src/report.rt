@@ -2,19 +2,15 @@
 // `write_pages`; `finished` of this and `program`; `in doubt` of these and `erase_sector`; the register,
 // id or bytes of a read that is done; and the pages that changed. Of `cut all`, one line a cut.
 ghost use Prim.Native.Nat.{_≤_, _<_};
-use crate::calls::Call;
+use crate::calls;
 use crate::ended::Ended;
-use crate::ended::is_done;
+use crate::items;
 use crate::request;
-use crate::request::Cut;
-use crate::request::Request;
-use crate::text;
-use crate::text::decimal;
-use crate::text::text;
 use crate::words;
 use log_observer::Spot;
-use log_observer::Watch;
-use qspi_script::Status;
+use printing::decimal;
+use printing::hex;
+use printing::text;
 use zedboard_bsp::qspi_spansion::words::bytes_of;
 use zedboard_bsp::qspi_spansion::words::top_byte;
 
@@ -22,6 +18,13 @@ use zedboard_bsp::qspi_spansion::words::top_byte;
 const PORTION: usize = 1024;
 
 const PAGE: usize = 256;
+
+// What the log shows: the chunks finished, their bytes, and what the flash may hold anything in.
+struct Shown {
+    finished: usize,
+    bytes: usize,
+    doubt: Spot,
+}
 
 // ---- the log
 
@@ -59,75 +62,42 @@ fn front(log: &[u32], used: usize) -> &[u32] {
 
 // ---- the end
 
-fn answer(status: Status) {
-    decimal(b"answer ", status.number() as usize);
-    match status {
-        Status::Going => text(b" Going\n"),
-        Status::Done => text(b" Done\n"),
-        Status::EraseErrorBitSet => text(b" EraseErrorBitSet\n"),
-        Status::ProgrammingErrorBitSet => text(b" ProgrammingErrorBitSet\n"),
-        Status::RepliesEnded => text(b" RepliesEnded\n"),
-        Status::LogFull => text(b" LogFull\n"),
-        _ => refusal(status),
-    }
-}
-
-// What the input brings on.
-fn refusal(status: Status) {
-    match status {
-        Status::OutOfRange => text(b" OutOfRange\n"),
-        Status::Alignment => text(b" Alignment\n"),
-        Status::DataTooLarge => text(b" DataTooLarge\n"),
-        Status::NotAligned => text(b" NotAligned\n"),
-        Status::CrossesPageBoundary => text(b" CrossesPageBoundary\n"),
-        Status::AddressSpan => text(b" AddressSpan\n"),
-        Status::FieldTooWide => text(b" FieldTooWide\n"),
-        _ => text(b" LentLengthChanged\n"),
-    }
-}
-
-fn made(before: &[u8], accesses: usize, after: &[u8]) {
-    decimal(before, accesses);
+fn counted(before: &[u8], n: usize, after: &[u8]) {
+    decimal(before, n);
     text(after);
 }
 
-// The answer, or the cut in its place.
-fn end(request: Request, ended: Ended) {
-    let status = ended.answer;
-    let cut = request.cut;
-    if refused(ended) {
-        return;
-    }
-    match cut {
-        Cut::After(point) => cut_end(status, point, ended.used / 2),
-        Cut::Never => answer(status),
-        Cut::Every => answer(status),
-    }
+fn answer(number: u32) {
+    text(b"answer ");
+    printing::answer(number);
+    text(b"\n");
 }
 
-fn cut_end(status: Status, point: usize, accesses: usize) {
-    if accesses == point {
-        return made(b"cut after ", accesses, b" accesses\n");
+// The answer, or the cut in its place.
+fn end(cut: usize, answered: u32, made: usize) {
+    if cut == made {
+        return counted(b"cut after ", made, b" accesses\n");
     }
-    made(b"ended after ", accesses, b" accesses, before the cut\n");
-    answer(status)
+    if cut < items::NEVER {
+        counted(b"ended after ", made, b" accesses, before the cut\n");
+    }
+    answer(answered)
 }
 
 // Says where the device could not go on.
-pub fn refused(ended: Ended) -> bool {
-    if ended.refused {
-        made(
+pub fn refused(is_refused: bool, used: usize) {
+    if is_refused {
+        counted(
             b"the device could not go on after ",
-            ended.used / 2,
+            used / 2,
             b" accesses\n",
         );
     }
-    ended.refused
 }
 
 // ---- the chunks
 
-pub fn nowhere() -> Spot {
+fn nowhere() -> Spot {
     Spot {
         there: false,
         address: 0,
@@ -135,54 +105,27 @@ pub fn nowhere() -> Spot {
     }
 }
 
-fn programs(call: Call) -> bool {
-    match call {
-        Call::Program => true,
-        Call::WritePages => true,
-        _ => false,
+// A page program's chunk is told by the log, and a sector by where its erase stands.
+fn seen(request: &[usize], log: &[u32], used: usize, is_erasing: bool) -> Shown {
+    let watch = log_observer::observe(log, used / 2);
+    let chunk = watch.doubt;
+    let sector = Spot {
+        there: is_erasing,
+        address: request::address(request),
+        length: 0x1_0000,
+    };
+    Shown {
+        finished: watch.finished as usize,
+        bytes: watch.bytes as usize,
+        doubt: if is_erasing { sector } else { chunk },
     }
-}
-
-fn erases(call: Call) -> bool {
-    if let Call::EraseSector = call {
-        true
-    } else {
-        false
-    }
-}
-
-fn sector_in_doubt(request: Request, ended: Ended) -> Spot {
-    let answer = ended.answer;
-    if is_done(answer) {
-        return nowhere();
-    }
-    if ended.erasing {
-        return Spot {
-            there: true,
-            address: request.address,
-            length: 0x1_0000,
-        };
-    }
-    nowhere()
-}
-
-// What the flash may hold anything in.
-fn in_doubt(request: Request, ended: Ended, watch: Watch) -> Spot {
-    let call = request.call;
-    if programs(call) {
-        return watch.doubt;
-    }
-    if erases(call) {
-        return sector_in_doubt(request, ended);
-    }
-    nowhere()
 }
 
 fn length(length: u32) {
     if length < 0x100 {
-        text::hex(b" ", length, 2)
+        hex(b" ", length, 2)
     } else {
-        text::hex(b" ", length, 5)
+        hex(b" ", length, 5)
     }
 }
 
@@ -190,25 +133,42 @@ fn spot(name: &[u8], none: &[u8], doubt: Spot) {
     if !doubt.there {
         return text(none);
     }
-    text::address(name, doubt.address);
+    address(name, doubt.address);
     length(doubt.length)
 }
 
-fn chunks(call: Call, programmed: usize, watch: Watch, doubt: Spot) {
-    if let Call::WritePages = call {
-        made(b"programmed ", programmed, b"\n");
+fn works(call: usize) -> bool {
+    calls::programs(call) || call == calls::ERASE_SECTOR
+}
+
+fn chunks(call: usize, programmed: usize, shown: Shown) {
+    if call == calls::WRITE_PAGES {
+        counted(b"programmed ", programmed, b"\n");
     }
-    if programs(call) {
-        decimal(b"finished ", watch.finished as usize);
-        made(b", bytes ", watch.bytes as usize, b"\n");
+    if calls::programs(call) {
+        decimal(b"finished ", shown.finished);
+        counted(b", bytes ", shown.bytes, b"\n");
     }
-    if programs(call) || erases(call) {
-        spot(b"in doubt ", b"in doubt none", doubt);
+    if works(call) {
+        spot(b"in doubt ", b"in doubt none", shown.doubt);
         text(b"\n");
     }
 }
 
 // ---- bytes
+
+// An address of the flash has six digits. Reads take greater ones too.
+fn address(name: &[u8], address: u32) {
+    if address < 0x100_0000 {
+        hex(name, address, 6)
+    } else {
+        hex(name, address, 8)
+    }
+}
+
+fn octet(byte: u8) {
+    hex(b" ", byte as u32, 2);
+}
 
 fn lies_in(doubt: Spot, address: u32) -> bool {
     if !doubt.there {
@@ -221,29 +181,26 @@ fn lies_in(doubt: Spot, address: u32) -> bool {
 }
 
 // A byte, with its address where it begins a line.
-fn cell(name: &[u8], byte: u8, address: u32, at: usize, doubt: Spot) {
+fn cell(name: &[u8], byte: u8, place: u32, at: usize, doubt: Spot) {
     if at % 16 == 0 {
-        text::address(name, address);
+        address(name, place);
     }
-    if lies_in(doubt, address) {
+    if lies_in(doubt, place) {
         text(b" ??")
     } else {
-        text::byte(b" ", byte)
+        octet(byte)
     }
 }
 
 fn row_end(at: usize, len: usize) {
     let next = std::num::wrapping_add_usize(at, 1);
-    if next == len {
-        return text(b"\n");
-    }
-    if next % 16 == 0 {
-        text(b"\n")
+    if next == len || next % 16 == 0 {
+        text(b"\n");
     }
 }
 
 fn further(address: u32, at: usize) -> u32 {
-    std::num::wrapping_add_u32(address, (at % 0x1_0000_0000) as u32)
+    std::num::wrapping_add_u32(address, request::word(at))
 }
 
 // Bytes, sixteen a line.
@@ -259,50 +216,53 @@ fn rows(name: &[u8], bytes: &[u8], address: u32, doubt: Spot) {
 // ---- what was read
 
 fn register(reply: u32) {
-    text::byte(b"register ", top_byte(reply));
+    text(b"register");
+    octet(top_byte(reply));
     text(b"\n");
+}
+
+fn octets(bytes: &[u8]) {
+    let mut i = 0;
+    while i < bytes.len() {
+        octet(bytes[i]);
+        i += 1;
+    }
 }
 
 // Three bytes of a reply, behind the one that came in while the command went out.
-fn three(reply: u32) {
-    let bytes = bytes_of(reply);
-    text::byte(b"id ", bytes[1]);
-    text::byte(b" ", bytes[2]);
-    text::byte(b" ", bytes[3]);
-}
-
 fn id(reply: u32) {
-    three(reply);
-    text(b"\n");
+    let bytes = bytes_of(reply);
+    text(b"id");
+    octets(&bytes[1..]);
 }
 
-fn long_id(older: u32, old: u32, last: u32) {
-    three(older);
-    let bytes = bytes_of(old);
-    text::byte(b" ", bytes[0]);
-    text::byte(b" ", bytes[1]);
-    text::byte(b" ", bytes[2]);
-    text::byte(b" ", bytes[3]);
-    let bytes = bytes_of(last);
-    text::byte(b" ", bytes[0]);
+// The id of one reply, or of three.
+fn read_id(is_long: bool, older: u32, old: u32, last: u32) {
+    if is_long {
+        id(older);
+        octets(&bytes_of(old));
+        octet(bytes_of(last)[0]);
+    } else {
+        id(last);
+    }
     text(b"\n");
 }
 
 // What a call that is done has read.
-fn value(request: Request, ended: Ended, buffer: &[u8]) {
-    let call = request.call;
-    let answer = ended.answer;
-    if !is_done(answer) {
+fn value(request: &[usize], ended: Ended, buffer: &[u8]) {
+    let call = items::of(request, items::CALL);
+    if !ended.done {
         return;
     }
     match call {
-        Call::ReadStatusRegister1 => register(ended.last),
-        Call::ReadConfigurationRegister => register(ended.last),
-        Call::ReadRdidBase => id(ended.last),
-        Call::ReadRdidExtended => long_id(ended.older, ended.old, ended.last),
-        Call::ReadPageRead => rows(b"read ", buffer, request.address, nowhere()),
-        Call::ReadFastRead => rows(b"read ", buffer, request.address, nowhere()),
-        _ => text(b""),
+        4..=5 => register(ended.last),
+        6..=7 => read_id(
+            call == calls::READ_RDID_EXTENDED,
+            ended.older,
+            ended.old,
+            ended.last,
+        ),
+        _ => rows(b"read ", buffer, request::address(request), nowhere()),
     }
 }
 
@@ -321,16 +281,16 @@ fn touches(doubt: Spot, address: u32) -> bool {
 }
 
 // 1 for a page that changed or may have.
-fn page(before: &[u8], after: &[u8], address: u32, doubt: Spot, is_shown: bool) -> usize {
+fn page(before: &[u8], after: &[u8], place: u32, doubt: Spot, is_shown: bool) -> usize {
     if words::same(before, after) {
-        if !touches(doubt, address) {
+        if !touches(doubt, place) {
             return 0;
         }
     }
     if is_shown {
-        text::address(b"page ", address);
+        address(b"page ", place);
         text(b"\n");
-        rows(b"", after, address, doubt);
+        rows(b"", after, place, doubt);
     }
     1
 }
@@ -376,40 +336,40 @@ fn changes(before: &[u8], array: &[u8], base: u32, doubt: Spot) {
 // ---- a run, and a line of `cut all`
 
 pub fn whole(
-    request: Request,
+    request: &[usize],
     ended: Ended,
     log: &[u32],
     buffer: &[u8],
     before: &[u8],
     array: &[u8],
 ) {
-    let call = request.call;
     let used = front(log, ended.used);
-    let watch = log_observer::observe(used, ended.used / 2);
-    let doubt = in_doubt(request, ended, watch);
+    let shown = seen(request, used, ended.used, ended.erasing);
     accesses(used);
-    end(request, ended);
+    if ended.refused {
+        refused(true, ended.used);
+    } else {
+        end(items::of(request, items::CUT), ended.answer, ended.used / 2);
+    }
     decimal(b"used log words ", ended.used);
-    made(b", replies ", ended.replies, b"\n");
-    chunks(call, ended.programmed, watch, doubt);
+    counted(b", replies ", ended.replies, b"\n");
+    chunks(items::of(request, items::CALL), ended.programmed, shown);
     value(request, ended, buffer);
-    changes(before, array, request::base_of(request.address), doubt);
+    changes(before, array, request::base_of(request), shown.doubt);
 }
 
-pub fn cut_line(request: Request, ended: Ended, log: &[u32], before: &[u8], array: &[u8]) {
-    let call = request.call;
-    let made = ended.used / 2;
-    let watch = log_observer::observe(log, made);
-    let doubt = in_doubt(request, ended, watch);
-    decimal(b"", made);
-    if programs(call) {
-        decimal(b" finished ", watch.finished as usize);
-        decimal(b" bytes ", watch.bytes as usize);
+pub fn cut_line(request: &[usize], ended: Ended, log: &[u32], before: &[u8], array: &[u8]) {
+    let call = items::of(request, items::CALL);
+    let shown = seen(request, log, ended.used, ended.erasing);
+    decimal(b"", ended.used / 2);
+    if calls::programs(call) {
+        decimal(b" finished ", shown.finished);
+        decimal(b" bytes ", shown.bytes);
     }
-    if programs(call) || erases(call) {
-        spot(b" doubt ", b" doubt -", doubt);
+    if works(call) {
+        spot(b" doubt ", b" doubt -", shown.doubt);
     }
-    let base = request::base_of(request.address);
-    decimal(b" pages ", pages(before, array, base, doubt, false));
+    let base = request::base_of(request);
+    decimal(b" pages ", pages(before, array, base, shown.doubt, false));
     text(b"\n");
 }

@@ -13,146 +13,120 @@
 //   replies N        how many replies there are; no limit by default
 //   cut K | cut all  the power fails after K accesses | after every number of accesses
 //   holds HEX HEX .. bytes that the flash holds beforehand, from an address on; FF elsewhere
+//
+// The values of the items, by their places, are the request that a run is lent.
 ghost use Prim.Native.Nat.{_<_};
 use crate::calls;
-use crate::calls::Call;
-use crate::fault::Item;
-use crate::fault::Wrong;
+use crate::fault;
+use crate::fault::Fault;
 use crate::items;
-use crate::items::Items;
-use crate::items::is_bad;
-use crate::items::line_of;
-use crate::items::value_of;
-use crate::items::value_or;
-use crate::items::with_fault;
 use crate::lines;
-use crate::lines::ACCESSES;
-use crate::lines::ALL;
 use crate::lines::Part;
-use crate::lines::UNLIMITED;
 use crate::words;
 
 // The part of the array that is lent.
 pub const PART: usize = 131072;
 
-pub enum Cut {
-    Never,
-    After(usize),
-    Every,
-}
-
-pub struct Request {
-    pub call: Call,
-    pub address: u32,
-    pub data: usize,
-    pub length: usize,
-    pub dummy: bool,
-    pub busy: u32,
-    pub gap: u32,
-    pub log: usize,
-    pub replies: usize,
-    pub cut: Cut,
-}
-
-fn fitting(items: Items, item: Item, is_taken: bool, is_needed: bool) -> Items {
-    let line = line_of(items, item);
-    if is_bad(items) {
-        return items;
+// What is wrong with an item of this call, which was on a line or, with 0, on none.
+fn fitting(call: usize, item: usize, line: usize) -> usize {
+    if calls::takes(call, item) {
+        if line == 0 && item != items::DUMMY {
+            return fault::NEEDED;
+        }
+        return fault::NOTHING;
     }
     if line == 0 {
-        if is_needed {
-            return with_fault(items, Wrong::Needed, item, line_of(items, Item::Call));
-        }
-        return items;
+        fault::NOTHING
+    } else {
+        fault::NOT_TAKEN
     }
-    if is_taken {
-        return items;
+}
+
+// The fault of a call's item: what is missing is told by the call's line.
+fn told(wrong: usize, item: usize, lines: &[usize]) -> Fault {
+    if wrong == fault::NEEDED {
+        Fault::new(wrong, item, items::of(lines, items::CALL))
+    } else {
+        Fault::new(wrong, item, items::of(lines, item))
     }
-    with_fault(items, Wrong::NotTaken, item, line)
 }
 
 // After the last line: whether there is what the call needs, and nothing else.
-fn checked(items: Items, lines: usize) -> Items {
-    let call = items.call;
-    let takes = calls::takes(call);
-    if is_bad(items) {
-        return items;
+fn checked(last: usize, values: &[usize], lines: &[usize]) -> Fault {
+    let call = items::of(values, items::CALL);
+    if items::of(lines, items::CALL) == 0 {
+        let next = std::num::wrapping_add_usize(last, 1);
+        return Fault::new(fault::NO_CALL, items::UNKNOWN, next);
     }
-    if line_of(items, Item::Call) == 0 {
-        let next = std::num::wrapping_add_usize(lines, 1);
-        return with_fault(items, Wrong::NoCall, Item::Unknown, next);
+    let mut item = items::ADDRESS;
+    while item <= items::DUMMY {
+        let wrong = fitting(call, item, items::of(lines, item));
+        if wrong != fault::NOTHING {
+            return told(wrong, item, lines);
+        }
+        item += 1;
     }
-    let items = fitting(items, Item::Address, takes.address, takes.address);
-    let items = fitting(items, Item::Data, takes.data, takes.data);
-    let items = fitting(items, Item::Length, takes.length, takes.length);
-    fitting(items, Item::Dummy, takes.dummy, false)
+    Fault::new(fault::NOTHING, items::UNKNOWN, last)
 }
 
 // Reads all items; of what the flash holds only whether it is said well.
-pub fn read(input: &[u8], data: &mut [u8]) -> Items {
+fn read_items(input: &[u8], values: &mut [usize], lines: &mut [usize], data: &mut [u8]) -> Fault {
     let mut none = [0u8; 0];
     let unknown = Part {
         known: false,
         base: 0,
         end: 0,
     };
-    let read = lines::read(items::nothing(), input, unknown, data, &mut none);
-    let items = read.items;
-    checked(items, read.count)
+    let last = lines::read(input, unknown, values, lines, data, &mut none);
+    if last.wrong != fault::NOTHING {
+        return last;
+    }
+    checked(last.line, values, lines)
 }
 
 // Puts what the flash holds into the part of the array.
-pub fn hold(items: Items, input: &[u8], array: &mut [u8]) -> Items {
+fn hold(input: &[u8], values: &mut [usize], lines: &mut [usize], array: &mut [u8]) -> Fault {
     let mut none = [0u8; 0];
-    let read = lines::read(items, input, part_of(items), &mut none, array);
-    read.items
+    let part = part_from(base_of(values) as usize);
+    lines::read(input, part, values, lines, &mut none, array)
+}
+
+// Reads a request. What the flash holds can be put into the part once the address is known.
+pub fn read(
+    input: &[u8],
+    values: &mut [usize],
+    lines: &mut [usize],
+    data: &mut [u8],
+    array: &mut [u8],
+) -> Fault {
+    let fault = read_items(input, values, lines, data);
+    if fault.wrong != fault::NOTHING {
+        return fault;
+    }
+    hold(input, values, lines, array)
 }
 
 // The sector of the call's address, which has 24 bits in the flash, and the next, up to the array's end.
-fn part_of(items: Items) -> Part {
-    let address = word(value_of(items, Item::Address));
-    let base = base_of(address) as usize;
+fn part_from(base: usize) -> Part {
+    let end = std::num::wrapping_add_usize(base, PART);
     Part {
         known: true,
         base,
-        end: words::least(base + PART, 0x100_0000),
+        end: words::least(end, 0x100_0000),
     }
 }
 
 // Where the part begins.
-pub fn base_of(address: u32) -> u32
+pub fn base_of(request: &[usize]) -> u32
     ensures base { λ r. ⌜ r < 16777216 ⌝ }
 {
-    address % 0x100_0000 / 0x1_0000 * 0x1_0000
+    address(request) % 0x100_0000 / 0x1_0000 * 0x1_0000
 }
 
-fn word(value: usize) -> u32 {
-    (value % 0x1_0000_0000) as u32
+pub fn address(request: &[usize]) -> u32 {
+    word(items::of(request, items::ADDRESS))
 }
 
-fn cut_of(items: Items) -> Cut {
-    let value = value_of(items, Item::Cut);
-    if line_of(items, Item::Cut) == 0 {
-        return Cut::Never;
-    }
-    if value == ALL {
-        return Cut::Every;
-    }
-    Cut::After(value)
-}
-
-pub fn request_of(items: Items) -> Request {
-    let call = items.call;
-    Request {
-        call,
-        address: word(value_of(items, Item::Address)),
-        data: value_of(items, Item::Data),
-        length: value_of(items, Item::Length),
-        dummy: value_or(items, Item::Dummy, 1) == 1,
-        busy: word(value_of(items, Item::Busy)),
-        gap: word(value_of(items, Item::Gap)),
-        log: value_or(items, Item::Log, ACCESSES),
-        replies: value_or(items, Item::Replies, UNLIMITED),
-        cut: cut_of(items),
-    }
+pub fn word(n: usize) -> u32 {
+    (n % 0x1_0000_0000) as u32
 }

@@ -63,6 +63,21 @@ pub fn past(s: &[u8], from: usize, byte: u8, is_passed: bool) -> usize
     i
 }
 
+// The place of a word in a table, of which each entry ends in a bar; or how many entries there are.
+pub fn place(table: &[u8], word: &[u8]) -> usize {
+    let mut place: usize = 0;
+    let mut at = 0;
+    while at < table.len() {
+        let end = past(table, at, b'|', false);
+        if same(&table[at..end], word) {
+            return place;
+        }
+        place = std::num::wrapping_add_usize(place, 1);
+        at = end + 1;
+    }
+    place
+}
+
 // The next word of a line.
 pub fn word_from(line: &[u8], at: usize) -> Word {
     let from = past(line, least(at, line.len()), b' ', true);

@@ -8,19 +8,20 @@ use Rattle.sim_console.proofs.lines.read.Statement.{statement}
 use Rattle.sim_console.proofs.lines.read.Tie as tie
 
 abbrev Inv-loop : tie.InvT-loop
-Inv-loop input part data₀ array₀ x₀ at₀ line₀ «data» array x at line = (line ≤ at) × ((at ≤ length input + 1) × ((length «data» ≡ length data₀) × (length array ≡ length array₀)))
+Inv-loop input part values₀ lines₀ data₀ array₀ last₀ at₀ line₀ values lines «data» array last at line =
+    (line ≤ at) × ((at ≤ length input + 1) × ((length values ≡ length values₀) × ((length lines ≡ length lines₀) × ((length «data» ≡ length data₀) × (length array ≡ length array₀)))))
 
 abbrev μ-loop : tie.MeasureT-loop
-μ-loop input part data₀ array₀ x₀ at₀ line₀ «data» array x at line = length input + 1 - at
+μ-loop input part values₀ lines₀ data₀ array₀ last₀ at₀ line₀ values lines «data» array last at line = length input + 1 - at
+
+new-requires : tie.Need-new-requires Inv-loop μ-loop
+new-requires c κs = tt
 
 loop-holds : tie.Need-loop-holds Inv-loop μ-loop
 loop-holds c = search needs
 
 past-requires : tie.Need-past-requires Inv-loop μ-loop
 past-requires c κs = omega arith
-
-add-line : tie.Need-add-line Inv-loop μ-loop
-add-line c = omega arith
 
 sub-without-cr : tie.Need-sub-without-cr Inv-loop μ-loop
 sub-without-cr c = omega arith
@@ -34,17 +35,14 @@ part-without-cr-end c = omega arith
 without-cr-requires : tie.Need-without-cr-requires Inv-loop μ-loop
 without-cr-requires c κs = tt
 
-with-line-requires : tie.Need-with-line-requires Inv-loop μ-loop
-with-line-requires c κs = tt
-
 add-at : tie.Need-add-at Inv-loop μ-loop
 add-at c = omega arith
 
-loop-less : tie.Need-loop-less Inv-loop μ-loop
-loop-less c = omega arith
+add-line : tie.Need-add-line Inv-loop μ-loop
+add-line c = omega arith
 
-loop-again : tie.Need-loop-again Inv-loop μ-loop
-loop-again c = search needs
+of-line-requires : tie.Need-of-line-requires Inv-loop μ-loop
+of-line-requires c κs = tt
 
 same-length : tie.Need-same-length Inv-loop μ-loop
 same-length c = omega arith
@@ -52,8 +50,35 @@ same-length c = omega arith
 same-length-2 : tie.Need-same-length-2 Inv-loop μ-loop
 same-length-2 c = omega arith
 
+same-length-3 : tie.Need-same-length-3 Inv-loop μ-loop
+same-length-3 c = omega arith
+
+same-length-4 : tie.Need-same-length-4 Inv-loop μ-loop
+same-length-4 c = omega arith
+
 returns : tie.Need-returns Inv-loop μ-loop
 returns c = tt
+
+loop-less : tie.Need-loop-less Inv-loop μ-loop
+loop-less c = omega arith
+
+loop-again : tie.Need-loop-again Inv-loop μ-loop
+loop-again c = search needs
+
+same-length-5 : tie.Need-same-length-5 Inv-loop μ-loop
+same-length-5 c = omega arith
+
+same-length-6 : tie.Need-same-length-6 Inv-loop μ-loop
+same-length-6 c = omega arith
+
+same-length-7 : tie.Need-same-length-7 Inv-loop μ-loop
+same-length-7 c = omega arith
+
+same-length-8 : tie.Need-same-length-8 Inv-loop μ-loop
+same-length-8 c = omega arith
+
+returns-2 : tie.Need-returns-2 Inv-loop μ-loop
+returns-2 c = tt
 
 pub read-spec : {M : Type 1} → statement M
 read-spec =
@@ -61,17 +86,25 @@ read-spec =
     (tie.spec
     Inv-loop
     μ-loop
+    new-requires
     loop-holds
     past-requires
-    add-line
     sub-without-cr
     part-without-cr-start
     part-without-cr-end
     without-cr-requires
-    with-line-requires
     add-at
-    loop-less
-    loop-again
+    add-line
+    of-line-requires
     same-length
     same-length-2
-    returns)
+    same-length-3
+    same-length-4
+    returns
+    loop-less
+    loop-again
+    same-length-5
+    same-length-6
+    same-length-7
+    same-length-8
+    returns-2)
