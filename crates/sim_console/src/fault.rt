@@ -64,22 +64,12 @@ pub const NOT_TAKEN: usize = 17;
 
 pub const OUTSIDE: usize = 18;
 
-pub struct Fault {
-    pub wrong: usize,
-    pub item: usize,
-    pub line: usize,
-}
-
-impl Fault {
-    pub fn new(wrong: usize, item: usize, line: usize) -> Fault {
-        Fault { wrong, item, line }
-    }
-}
-
-pub fn print(wrong: usize, item: usize, line: usize) {
-    decimal(b"line ", line);
+// The line that was read last is at fault.
+pub fn print(wrong: usize, said: &[usize]) {
+    let item = items::of(said, items::LAST_ITEM);
+    decimal(b"line ", items::of(said, items::LAST_LINE));
     text(b": ");
-    if item < items::ITEMS {
+    if item < items::UNKNOWN {
         entry(&items::NAMES, item);
         text(b": ");
     }

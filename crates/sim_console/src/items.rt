@@ -1,5 +1,6 @@
 // The items of a request, by their places in the table of their names. What the lines say of them stands
-// in two lent slices: the value of each, and the line that it was on, 0 where there was none.
+// in one lent slice: the value of each; the line that each was on, 0 where there was none; and which line
+// was read last, of which item.
 pub const NAMES: [u8; 62] = *b"call|address|data|length|dummy|busy|gap|log|replies|cut|holds|";
 
 pub const CALL: usize = 0;
@@ -43,17 +44,68 @@ pub const EVERY: usize = 0xFFFF_FFFF;
 // No cut is asked for.
 pub const NEVER: usize = 0x1_0000_0000;
 
-// The values before the first line.
-pub const DEFAULTS: [usize; ITEMS] = [0, 0, 0, 0, 1, 0, 0, MOST_ACCESSES, UNLIMITED, NEVER, 0];
+// Where the line of the first item stands, the line read last, and its item.
+const LINES: usize = 11;
 
+pub const LAST_LINE: usize = 22;
+
+pub const LAST_ITEM: usize = 23;
+
+pub const SAID: usize = 24;
+
+// Before the first line.
+pub const DEFAULTS: [usize; SAID] = [
+    0,
+    0,
+    0,
+    0,
+    1,
+    0,
+    0,
+    MOST_ACCESSES,
+    UNLIMITED,
+    NEVER,
+    0,
+    0,
+    0,
+    0,
+    0,
+    0,
+    0,
+    0,
+    0,
+    0,
+    0,
+    0,
+    0,
+    UNKNOWN,
+];
+
+// The value of an item.
 pub fn of(said: &[usize], item: usize) -> usize {
     if item < said.len() { said[item] } else { 0 }
 }
 
-pub fn put(said: &mut [usize], item: usize, n: usize) {
-    if item < said.len() {
-        said[item] = n;
+pub fn line_of(said: &[usize], item: usize) -> usize {
+    of(said, std::num::wrapping_add_usize(LINES, item))
+}
+
+fn put(said: &mut [usize], at: usize, n: usize) {
+    if at < said.len() {
+        said[at] = n;
     }
+}
+
+// A value, on a line.
+pub fn say(said: &mut [usize], item: usize, value: usize, line: usize) {
+    put(said, item, value);
+    put(said, std::num::wrapping_add_usize(LINES, item), line);
+}
+
+// Where a fault is, if there is one.
+pub fn stand_at(said: &mut [usize], line: usize, item: usize) {
+    put(said, LAST_LINE, line);
+    put(said, LAST_ITEM, item);
 }
 
 // The greatest number that an item takes.

@@ -29,8 +29,14 @@ pub fn simulate_input() {
     if len < INPUT {
         simulate_text(&input[..len]);
     } else {
-        fault::print(fault::LONG_INPUT, items::UNKNOWN, last_line(&input));
+        too_long(last_line(&input));
     }
+}
+
+fn too_long(line: usize) {
+    let mut said = items::DEFAULTS;
+    items::stand_at(&mut said, line, items::UNKNOWN);
+    fault::print(fault::LONG_INPUT, &said);
 }
 
 // The number of the last line.
@@ -48,15 +54,15 @@ fn last_line(input: &[u8]) -> usize {
 
 // A request that is at hand as text.
 pub fn simulate_text(input: &[u8]) {
-    let mut values = items::DEFAULTS;
-    let mut lines = [0usize; items::ITEMS];
+    let mut said = items::DEFAULTS;
     let mut data = [0u8; MOST_BYTES];
     let mut array = [0xFFu8; PART];
-    let read = request::read(input, &mut values, &mut lines, &mut data, &mut array);
-    if read.wrong != fault::NOTHING {
-        return fault::print(read.wrong, read.item, read.line);
+    let wrong = request::read(input, &mut said, &mut data, &mut array);
+    if wrong == fault::NOTHING {
+        simulate(&said, &data, &mut array);
+    } else {
+        fault::print(wrong, &said);
     }
-    simulate(&values, &data, &mut array);
 }
 
 fn copy(from: &[u8], to: &mut [u8]) {
@@ -78,6 +84,7 @@ fn simulate(request: &[usize], data: &[u8], array: &mut [u8]) {
     lent(request, data, &mut buffer[0..len], &mut log, &before, array);
 }
 
+// A run with room for so many accesses is one that is cut there.
 fn lent(
     request: &[usize],
     data: &[u8],
@@ -87,12 +94,12 @@ fn lent(
     array: &mut [u8],
 ) {
     let cut = items::of(request, items::CUT);
-    let room = items::of(request, items::LOG);
     if cut == items::EVERY {
-        cuts(request, room, data, buffer, log, before, array);
-    } else {
-        whole(request, least(cut, room), data, buffer, log, before, array);
+        return cuts(request, data, buffer, log, before, array);
     }
+    let end = words_of(least(cut, items::of(request, items::LOG)), log.len());
+    let ended = run(request, data, buffer, &mut log[0..end], array);
+    report::whole(request, ended, log, buffer, before, array);
 }
 
 // The words of so many accesses.
@@ -132,42 +139,27 @@ fn run(
     ))
 }
 
-// A run with room for so many accesses: a cut after K accesses is a run that had room for K.
-fn whole(
-    request: &[usize],
-    room: usize,
-    data: &[u8],
-    buffer: &mut [u8],
-    log: &mut [u32],
-    before: &[u8],
-    array: &mut [u8],
-) {
-    let end = words_of(room, log.len());
-    let ended = run(request, data, buffer, &mut log[0..end], array);
-    report::whole(request, ended, log, buffer, before, array);
-}
-
-// The whole run, for how many accesses it makes; then every cut of it.
+// Every cut, up to the first that the run does not reach.
 fn cuts(
     request: &[usize],
-    room: usize,
     data: &[u8],
     buffer: &mut [u8],
     log: &mut [u32],
     before: &[u8],
     array: &mut [u8],
 ) {
-    let end = words_of(room, log.len());
-    let ended = run(request, data, buffer, &mut log[0..end], array);
-    let points = std::num::wrapping_add_usize(ended.used / 2, 1);
+    let room = items::of(request, items::LOG);
     let mut k = 0;
-    while k < points {
-        cut_at(request, k, data, buffer, log, before, array);
+    while k < room {
+        if !cut_at(request, k, data, buffer, log, before, array) {
+            return;
+        }
         k += 1;
     }
-    report::refused(ended.refused, ended.used);
+    cut_at(request, room, data, buffer, log, before, array);
 }
 
+// Whether the run reaches the cut after so many accesses: then its line is printed.
 fn cut_at(
     request: &[usize],
     point: usize,
@@ -176,9 +168,14 @@ fn cut_at(
     log: &mut [u32],
     before: &[u8],
     array: &mut [u8],
-) {
+) -> bool {
     copy(before, array);
     let end = words_of(point, log.len());
     let ended = run(request, data, buffer, &mut log[0..end], array);
-    report::cut_line(request, ended, log, before, array);
+    if ended.used == end {
+        report::cut_line(request, ended, log, before, array);
+        return true;
+    }
+    report::refused(ended.refused, ended.used);
+    false
 }

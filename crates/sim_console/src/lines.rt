@@ -1,7 +1,6 @@
 // The lines of a request: each says one item. A function that reads one gives what is wrong with it.
 use crate::calls;
 use crate::fault;
-use crate::fault::Fault;
 use crate::items;
 use crate::numbers;
 use crate::numbers::Parsed;
@@ -9,12 +8,8 @@ use crate::words;
 
 const LONGEST: usize = 1024;
 
-// Where the part of the array begins and ends: known once all items are read.
-pub struct Part {
-    pub known: bool,
-    pub base: usize,
-    pub end: usize,
-}
+// No memory reaches as far.
+const FAR_OUTSIDE: usize = 0x1_0000_0000;
 
 enum Value {
     Is(usize),
@@ -82,17 +77,10 @@ fn value_in(item: usize, word: &[u8]) -> Value {
 // ---- lines
 
 // An item with one value.
-fn single(
-    item: usize,
-    text: &[u8],
-    at: usize,
-    line: usize,
-    values: &mut [usize],
-    lines: &mut [usize],
-) -> usize {
-    let word = words::word_from(text, at);
-    let more = words::word_from(text, word.to);
-    if items::of(lines, item) != 0 {
+fn single(item: usize, rest: &[u8], line: usize, said: &mut [usize]) -> usize {
+    let word = words::word_from(rest, 0);
+    let more = words::word_from(rest, word.to);
+    if items::line_of(said, item) != 0 {
         return fault::AGAIN;
     }
     if word.is_none() {
@@ -101,30 +89,21 @@ fn single(
     if !more.is_none() {
         return fault::MORE_WORDS;
     }
-    items::put(lines, item, line);
-    match value_in(item, words::word_in(text, word)) {
+    match value_in(item, words::word_in(rest, word)) {
+        Value::Bad(wrong) => wrong,
         Value::Is(n) => {
-            items::put(values, item, n);
+            items::say(said, item, n, line);
             fault::NOTHING
         }
-        Value::Bad(wrong) => wrong,
     }
 }
 
 // The bytes of a `data` line, behind those of the lines before it.
-fn further_data(
-    text: &[u8],
-    at: usize,
-    line: usize,
-    values: &mut [usize],
-    lines: &mut [usize],
-    data: &mut [u8],
-) -> usize {
-    let before = items::of(values, items::DATA);
-    let bytes = numbers::put_bytes(words::part(text, at, text.len()), data, before);
+fn further_data(rest: &[u8], line: usize, said: &mut [usize], data: &mut [u8]) -> usize {
+    let before = items::of(said, items::DATA);
+    let bytes = numbers::put_bytes(rest, data, before);
     let count = std::num::wrapping_add_usize(before, bytes.count);
-    items::put(lines, items::DATA, line);
-    items::put(values, items::DATA, count);
+    items::say(said, items::DATA, count, line);
     if bytes.wrong != fault::NOTHING {
         return bytes.wrong;
     }
@@ -135,50 +114,81 @@ fn further_data(
     }
 }
 
-// The bytes of a `holds` line. As long as the part is not known they are looked at, and not kept.
-fn held(text: &[u8], at: usize, part: Part, array: &mut [u8]) -> usize {
-    let word = words::word_from(text, at);
+// The bytes of a `holds` line.
+fn held(rest: &[u8], base: usize, end: usize, array: &mut [u8]) -> usize {
+    let word = words::word_from(rest, 0);
     if word.is_none() {
         return fault::NO_VALUE;
     }
-    match address(words::word_in(text, word)) {
+    match address(words::word_in(rest, word)) {
         Value::Bad(wrong) => wrong,
-        Value::Is(from) => held_from(words::part(text, word.to, text.len()), from, part, array),
+        Value::Is(from) => held_from(words::behind(rest, word), from, base, end, array),
     }
 }
 
-fn held_from(rest: &[u8], from: usize, part: Part, array: &mut [u8]) -> usize {
-    let start = std::num::wrapping_sub_usize(from, part.base);
-    let bytes = numbers::put_bytes(rest, array, start);
+// As long as the part is not known the bytes are looked at, and not kept.
+fn start(from: usize, base: usize, end: usize) -> usize {
+    if end == 0 {
+        FAR_OUTSIDE
+    } else {
+        std::num::wrapping_sub_usize(from, base)
+    }
+}
+
+fn held_from(rest: &[u8], from: usize, base: usize, end: usize, array: &mut [u8]) -> usize {
+    let bytes = numbers::put_bytes(rest, array, start(from, base, end));
     if bytes.wrong != fault::NOTHING {
         return bytes.wrong;
     }
     if bytes.count == 0 {
         return fault::NO_VALUE;
     }
-    if lies_within(part, from, bytes.count) {
+    if lies_within(from, bytes.count, base, end) {
         fault::NOTHING
     } else {
         fault::OUTSIDE
     }
 }
 
-fn lies_within(part: Part, from: usize, count: usize) -> bool {
-    if !part.known {
+fn lies_within(from: usize, count: usize, base: usize, end: usize) -> bool {
+    if end == 0 {
         return true;
     }
-    if from < part.base {
+    if from < base {
         return false;
     }
-    std::num::wrapping_add_usize(from, count) <= part.end
+    std::num::wrapping_add_usize(from, count) <= end
+}
+
+// Once the part is known, only the `holds` lines are left.
+fn of_item(
+    item: usize,
+    rest: &[u8],
+    line: usize,
+    base: usize,
+    end: usize,
+    said: &mut [usize],
+    bytes: &mut [u8],
+) -> usize {
+    if item == items::HOLDS {
+        return held(rest, base, end, bytes);
+    }
+    if end != 0 {
+        return fault::NOTHING;
+    }
+    if item == items::UNKNOWN {
+        return fault::UNKNOWN_ITEM;
+    }
+    if item == items::DATA {
+        return further_data(rest, line, said, bytes);
+    }
+    single(item, rest, line, said)
 }
 
 // The item that a line is of.
 fn item_in(text: &[u8]) -> usize {
-    words::place(
-        &items::NAMES,
-        words::word_in(text, words::word_from(text, 0)),
-    )
+    let word = words::word_from(text, 0);
+    words::place(&items::NAMES, words::word_in(text, word))
 }
 
 // A line that says nothing: it is blank, or begins with #.
@@ -190,74 +200,41 @@ fn is_silent(text: &[u8]) -> bool {
     words::byte_at(text, word.from) == b'#'
 }
 
-// Once the part is known, only the `holds` lines are left.
-fn of_item(
-    item: usize,
-    text: &[u8],
-    line: usize,
-    part: Part,
-    values: &mut [usize],
-    lines: &mut [usize],
-    data: &mut [u8],
-    array: &mut [u8],
-) -> usize {
-    let word = words::word_from(text, 0);
-    if item == items::HOLDS {
-        return held(text, word.to, part, array);
-    }
-    if part.known {
-        return fault::NOTHING;
-    }
-    if item == items::UNKNOWN {
-        return fault::UNKNOWN_ITEM;
-    }
-    if item == items::DATA {
-        return further_data(text, word.to, line, values, lines, data);
-    }
-    single(item, text, word.to, line, values, lines)
-}
-
 fn of_line(
     text: &[u8],
     line: usize,
-    part: Part,
-    values: &mut [usize],
-    lines: &mut [usize],
-    data: &mut [u8],
-    array: &mut [u8],
-) -> Fault {
+    base: usize,
+    end: usize,
+    said: &mut [usize],
+    bytes: &mut [u8],
+) -> usize {
+    items::stand_at(said, line, items::UNKNOWN);
     if LONGEST < text.len() {
-        return Fault::new(fault::LONG_LINE, items::UNKNOWN, line);
+        return fault::LONG_LINE;
     }
     if is_silent(text) {
-        return Fault::new(fault::NOTHING, items::UNKNOWN, line);
+        return fault::NOTHING;
     }
     let item = item_in(text);
-    let wrong = of_item(item, text, line, part, values, lines, data, array);
-    Fault::new(wrong, item, line)
+    items::stand_at(said, line, item);
+    let rest = words::behind(text, words::word_from(text, 0));
+    of_item(item, rest, line, base, end, said, bytes)
 }
 
-// Reads the lines, up to the first that is bad; where none is, the last line is told.
-pub fn read(
-    input: &[u8],
-    part: Part,
-    values: &mut [usize],
-    lines: &mut [usize],
-    data: &mut [u8],
-    array: &mut [u8],
-) -> Fault {
-    let mut last = Fault::new(fault::NOTHING, items::UNKNOWN, 0);
+// Reads the lines, up to the first that is bad. The part of the array goes from `base` to `end`; before it
+// is known `end` is 0, and `bytes` are the data, else they are the part.
+pub fn read(input: &[u8], base: usize, end: usize, said: &mut [usize], bytes: &mut [u8]) -> usize {
     let mut at = 0;
     let mut line = 0;
     while at < input.len() {
-        let end = words::past(input, at, b'\n', false);
-        let text = words::without_cr(&input[at..end]);
-        at = end + 1;
+        let stop = words::past(input, at, b'\n', false);
+        let text = words::without_cr(&input[at..stop]);
+        at = stop + 1;
         line += 1;
-        last = of_line(text, line, part, values, lines, data, array);
-        if last.wrong != fault::NOTHING {
-            return last;
+        let wrong = of_line(text, line, base, end, said, bytes);
+        if wrong != fault::NOTHING {
+            return wrong;
         }
     }
-    last
+    fault::NOTHING
 }

@@ -14,14 +14,12 @@
 //   cut K | cut all  the power fails after K accesses | after every number of accesses
 //   holds HEX HEX .. bytes that the flash holds beforehand, from an address on; FF elsewhere
 //
-// The values of the items, by their places, are the request that a run is lent.
+// What was said of the items, by their places, is the request that a run is lent.
 ghost use Prim.Native.Nat.{_<_};
 use crate::calls;
 use crate::fault;
-use crate::fault::Fault;
 use crate::items;
 use crate::lines;
-use crate::lines::Part;
 use crate::words;
 
 // The part of the array that is lent.
@@ -42,78 +40,59 @@ fn fitting(call: usize, item: usize, line: usize) -> usize {
     }
 }
 
-// The fault of a call's item: what is missing is told by the call's line.
-fn told(wrong: usize, item: usize, lines: &[usize]) -> Fault {
+// What is missing is told by the call's line.
+fn told_by(wrong: usize, item: usize) -> usize {
     if wrong == fault::NEEDED {
-        Fault::new(wrong, item, items::of(lines, items::CALL))
+        items::CALL
     } else {
-        Fault::new(wrong, item, items::of(lines, item))
+        item
     }
 }
 
-// After the last line: whether there is what the call needs, and nothing else.
-fn checked(last: usize, values: &[usize], lines: &[usize]) -> Fault {
-    let call = items::of(values, items::CALL);
-    if items::of(lines, items::CALL) == 0 {
-        let next = std::num::wrapping_add_usize(last, 1);
-        return Fault::new(fault::NO_CALL, items::UNKNOWN, next);
-    }
+// Whether there is what the call needs, and nothing else.
+fn checked(call: usize, said: &mut [usize]) -> usize {
     let mut item = items::ADDRESS;
     while item <= items::DUMMY {
-        let wrong = fitting(call, item, items::of(lines, item));
+        let wrong = fitting(call, item, items::line_of(said, item));
         if wrong != fault::NOTHING {
-            return told(wrong, item, lines);
+            let line = items::line_of(said, told_by(wrong, item));
+            items::stand_at(said, line, item);
+            return wrong;
         }
         item += 1;
     }
-    Fault::new(fault::NOTHING, items::UNKNOWN, last)
+    fault::NOTHING
 }
 
 // Reads all items; of what the flash holds only whether it is said well.
-fn read_items(input: &[u8], values: &mut [usize], lines: &mut [usize], data: &mut [u8]) -> Fault {
-    let mut none = [0u8; 0];
-    let unknown = Part {
-        known: false,
-        base: 0,
-        end: 0,
-    };
-    let last = lines::read(input, unknown, values, lines, data, &mut none);
-    if last.wrong != fault::NOTHING {
-        return last;
+fn read_items(input: &[u8], said: &mut [usize], data: &mut [u8]) -> usize {
+    let wrong = lines::read(input, 0, 0, said, data);
+    if wrong != fault::NOTHING {
+        return wrong;
     }
-    checked(last.line, values, lines)
+    if items::line_of(said, items::CALL) == 0 {
+        let next = std::num::wrapping_add_usize(items::of(said, items::LAST_LINE), 1);
+        items::stand_at(said, next, items::UNKNOWN);
+        return fault::NO_CALL;
+    }
+    checked(items::of(said, items::CALL), said)
 }
 
-// Puts what the flash holds into the part of the array.
-fn hold(input: &[u8], values: &mut [usize], lines: &mut [usize], array: &mut [u8]) -> Fault {
-    let mut none = [0u8; 0];
-    let part = part_from(base_of(values) as usize);
-    lines::read(input, part, values, lines, &mut none, array)
+// Reads a request, and gives what is wrong with it. What the flash holds can be put into the part of the
+// array once the address is known.
+pub fn read(input: &[u8], said: &mut [usize], data: &mut [u8], array: &mut [u8]) -> usize {
+    let wrong = read_items(input, said, data);
+    if wrong != fault::NOTHING {
+        return wrong;
+    }
+    let base = base_of(said) as usize;
+    lines::read(input, base, end_of(base), said, array)
 }
 
-// Reads a request. What the flash holds can be put into the part once the address is known.
-pub fn read(
-    input: &[u8],
-    values: &mut [usize],
-    lines: &mut [usize],
-    data: &mut [u8],
-    array: &mut [u8],
-) -> Fault {
-    let fault = read_items(input, values, lines, data);
-    if fault.wrong != fault::NOTHING {
-        return fault;
-    }
-    hold(input, values, lines, array)
-}
-
-// The sector of the call's address, which has 24 bits in the flash, and the next, up to the array's end.
-fn part_from(base: usize) -> Part {
-    let end = std::num::wrapping_add_usize(base, PART);
-    Part {
-        known: true,
-        base,
-        end: words::least(end, 0x100_0000),
-    }
+// The part is the sector of the call's address, which has 24 bits in the flash, and the next, up to the
+// array's end.
+fn end_of(base: usize) -> usize {
+    words::least(std::num::wrapping_add_usize(base, PART), 0x100_0000)
 }
 
 // Where the part begins.

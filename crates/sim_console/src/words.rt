@@ -89,6 +89,10 @@ pub fn word_in(line: &[u8], word: Word) -> &[u8] {
     part(line, word.from, word.to)
 }
 
+pub fn behind(line: &[u8], word: Word) -> &[u8] {
+    part(line, word.to, line.len())
+}
+
 // Without the CR that some systems put before the LF.
 pub fn without_cr(line: &[u8]) -> &[u8] {
     if 0 < line.len() {

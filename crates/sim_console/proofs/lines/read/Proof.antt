@@ -8,14 +8,10 @@ use Rattle.sim_console.proofs.lines.read.Statement.{statement}
 use Rattle.sim_console.proofs.lines.read.Tie as tie
 
 abbrev Inv-loop : tie.InvT-loop
-Inv-loop input part values₀ lines₀ data₀ array₀ last₀ at₀ line₀ values lines «data» array last at line =
-    (line ≤ at) × ((at ≤ length input + 1) × ((length values ≡ length values₀) × ((length lines ≡ length lines₀) × ((length «data» ≡ length data₀) × (length array ≡ length array₀)))))
+Inv-loop input base end said₀ bytes₀ at₀ line₀ said bytes at line = (line ≤ at) × ((at ≤ length input + 1) × ((length said ≡ length said₀) × (length bytes ≡ length bytes₀)))
 
 abbrev μ-loop : tie.MeasureT-loop
-μ-loop input part values₀ lines₀ data₀ array₀ last₀ at₀ line₀ values lines «data» array last at line = length input + 1 - at
-
-new-requires : tie.Need-new-requires Inv-loop μ-loop
-new-requires c κs = tt
+μ-loop input base end said₀ bytes₀ at₀ line₀ said bytes at line = length input + 1 - at
 
 loop-holds : tie.Need-loop-holds Inv-loop μ-loop
 loop-holds c = search needs
@@ -50,12 +46,6 @@ same-length c = omega arith
 same-length-2 : tie.Need-same-length-2 Inv-loop μ-loop
 same-length-2 c = omega arith
 
-same-length-3 : tie.Need-same-length-3 Inv-loop μ-loop
-same-length-3 c = omega arith
-
-same-length-4 : tie.Need-same-length-4 Inv-loop μ-loop
-same-length-4 c = omega arith
-
 returns : tie.Need-returns Inv-loop μ-loop
 returns c = tt
 
@@ -65,17 +55,11 @@ loop-less c = omega arith
 loop-again : tie.Need-loop-again Inv-loop μ-loop
 loop-again c = search needs
 
-same-length-5 : tie.Need-same-length-5 Inv-loop μ-loop
-same-length-5 c = omega arith
+same-length-3 : tie.Need-same-length-3 Inv-loop μ-loop
+same-length-3 c = omega arith
 
-same-length-6 : tie.Need-same-length-6 Inv-loop μ-loop
-same-length-6 c = omega arith
-
-same-length-7 : tie.Need-same-length-7 Inv-loop μ-loop
-same-length-7 c = omega arith
-
-same-length-8 : tie.Need-same-length-8 Inv-loop μ-loop
-same-length-8 c = omega arith
+same-length-4 : tie.Need-same-length-4 Inv-loop μ-loop
+same-length-4 c = omega arith
 
 returns-2 : tie.Need-returns-2 Inv-loop μ-loop
 returns-2 c = tt
@@ -86,7 +70,6 @@ read-spec =
     (tie.spec
     Inv-loop
     μ-loop
-    new-requires
     loop-holds
     past-requires
     sub-without-cr
@@ -98,13 +81,9 @@ read-spec =
     of-line-requires
     same-length
     same-length-2
-    same-length-3
-    same-length-4
     returns
     loop-less
     loop-again
-    same-length-5
-    same-length-6
-    same-length-7
-    same-length-8
+    same-length-3
+    same-length-4
     returns-2)

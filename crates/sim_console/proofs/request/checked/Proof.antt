@@ -1,44 +1,41 @@
 -- `sim_console::request::checked` is safe and ends: it counts from `address` up to `dummy`. Assumes nothing.
 use Prim.Native.Nat.{_-_, _≤_}
+use mathlib.Core.Path.{_≡_}
+use lib.ListN.{length}
+use borrow.Author.Needs.{needs}
 use native.Mathlib.Omega.{arith}
 use Rattle.sim_console.proofs.request.checked.Statement.{statement}
 use Rattle.sim_console.proofs.request.checked.Tie as tie
 
 abbrev Inv-loop : tie.InvT-loop
-Inv-loop last values lines call item₀ item = item ≤ 5
+Inv-loop call said₀ item₀ said item = (item ≤ 5) × (length said ≡ length said₀)
 
 abbrev μ-loop : tie.MeasureT-loop
-μ-loop last values lines call item₀ item = 5 - item
-
-of-requires : tie.Need-of-requires Inv-loop μ-loop
-of-requires c κs = tt
-
-of-requires-2 : tie.Need-of-requires-2 Inv-loop μ-loop
-of-requires-2 c κs = tt
-
-wrapping-add-usize-requires : tie.Need-wrapping-add-usize-requires Inv-loop μ-loop
-wrapping-add-usize-requires c κs = tt
-
-new-requires : tie.Need-new-requires Inv-loop μ-loop
-new-requires c κs = tt
-
-returns : tie.Need-returns Inv-loop μ-loop
-returns c = tt
+μ-loop call said₀ item₀ said item = 5 - item
 
 loop-holds : tie.Need-loop-holds Inv-loop μ-loop
-loop-holds c = omega arith
+loop-holds c = search needs
 
-of-requires-3 : tie.Need-of-requires-3 Inv-loop μ-loop
-of-requires-3 c κs = tt
+line-of-requires : tie.Need-line-of-requires Inv-loop μ-loop
+line-of-requires c κs = tt
 
 fitting-requires : tie.Need-fitting-requires Inv-loop μ-loop
 fitting-requires c κs = tt
 
-told-requires : tie.Need-told-requires Inv-loop μ-loop
-told-requires c κs = tt
+told-by-requires : tie.Need-told-by-requires Inv-loop μ-loop
+told-by-requires c κs = tt
 
-returns-2 : tie.Need-returns-2 Inv-loop μ-loop
-returns-2 c = tt
+line-of-requires-2 : tie.Need-line-of-requires-2 Inv-loop μ-loop
+line-of-requires-2 c κs = tt
+
+stand-at-requires : tie.Need-stand-at-requires Inv-loop μ-loop
+stand-at-requires c κs = tt
+
+same-length : tie.Need-same-length Inv-loop μ-loop
+same-length c = omega arith
+
+returns : tie.Need-returns Inv-loop μ-loop
+returns c = tt
 
 add-item : tie.Need-add-item Inv-loop μ-loop
 add-item c = omega arith
@@ -47,13 +44,13 @@ loop-less : tie.Need-loop-less Inv-loop μ-loop
 loop-less c = omega arith
 
 loop-again : tie.Need-loop-again Inv-loop μ-loop
-loop-again c = omega arith
+loop-again c = search needs
 
-new-requires-2 : tie.Need-new-requires-2 Inv-loop μ-loop
-new-requires-2 c κs = tt
+same-length-2 : tie.Need-same-length-2 Inv-loop μ-loop
+same-length-2 c = omega arith
 
-returns-3 : tie.Need-returns-3 Inv-loop μ-loop
-returns-3 c = tt
+returns-2 : tie.Need-returns-2 Inv-loop μ-loop
+returns-2 c = tt
 
 pub checked-spec : {M : Type 1} → statement M
 checked-spec =
@@ -61,18 +58,16 @@ checked-spec =
     (tie.spec
     Inv-loop
     μ-loop
-    of-requires
-    of-requires-2
-    wrapping-add-usize-requires
-    new-requires
-    returns
     loop-holds
-    of-requires-3
+    line-of-requires
     fitting-requires
-    told-requires
-    returns-2
+    told-by-requires
+    line-of-requires-2
+    stand-at-requires
+    same-length
+    returns
     add-item
     loop-less
     loop-again
-    new-requires-2
-    returns-3)
+    same-length-2
+    returns-2)
