@@ -30,28 +30,24 @@ module _ (a : ℕ) (bytes rs log : List ℕ) where
   abbrev pub result : Result
   result = called (writePages a bytes) (length log / 2) rs
 
-  -- answer and used counts, bytes programmed, log, and the power-cut statement
+  -- answer and used counts, bytes programmed, log
   pub record Promised (r : Ran) (n : ℕ) (log₁ : List ℕ) : Type 0 where
     pub ran : r ≡ ranOf result
     pub counted : n ≡ countIn (result .state)
     pub logged : log₁ ≡ loggedOf result log
-    pub cut : Saved a bytes (record { ran = r; programmed = n }) log₁
 
-  saved : AllBytes bytes → Saved a bytes (record { ran = ranOf result; programmed = countIn (result .state) }) (loggedOf result log)
-  saved h = record {
-    accesses = result .log;
-    is-log = used-words result log;
-    to-registers = run-loggable (Call.write-pages a bytes) (length log / 2) rs;
-    claim = power-cut a bytes h (length log / 2) rs;
-  }
-
-  carry : {r r₁ : Ran} {n n₁ : ℕ} {l l₁ : List ℕ} → r ≡ r₁ → n ≡ n₁ → l ≡ l₁ → Saved a bytes (record { ran = r₁; programmed = n₁ }) l₁ → Saved a bytes (record { ran = r; programmed = n }) l
-  carry e f g h = rw (e, f, g) h
-
-  pub promised : {o : Op} {s : Stepped} {r : Ran} {n : ℕ} {log₁ : List ℕ} → length rs < 2 ^ 64 → ((i : ℕ) → getD bytes i 0 < 256) → o ≡ writePagesOf a (length bytes) (length log) → Ended s log₁ (runOf o bytes rs [] log)
-      → n ≡ programmedOf (s .op) → r ≡ handed s → Promised r n log₁
-  promised fits octets e h f g =
+  pub promised : {o : Op} {s : Stepped} {r : Ran} {n : ℕ} {log₁ : List ℕ} → length rs < 2 ^ 64 → o ≡ writePagesOf a (length bytes) (length log) → Ended s log₁ (runOf o bytes rs [] log) → n ≡ programmedOf (s .op) → r ≡ handed s
+      → Promised r n log₁
+  promised fits e h f g =
       let k = kept-by no-values (writePages a bytes) bytes rs log [] fits e (write-pages a bytes log) h in
-      let ran₁ = g ∙ k .ran in
-      let counted₁ = f ∙ sym (k .counted) in
-      record { ran = ran₁; counted = counted₁; logged = k .logged; cut = carry ran₁ counted₁ (k .logged) (saved (all-bytes bytes octets)) }
+      record { ran = g ∙ k .ran; counted = f ∙ sym (k .counted); logged = k .logged }
+
+  -- and the power-cut statement of them
+  pub saved : {r : Ran} {n : ℕ} {log₁ : List ℕ} → ((i : ℕ) → getD bytes i 0 < 256) → Promised r n log₁ → Saved a bytes (record { ran = r; programmed = n }) log₁
+  saved octets p =
+      rw (p .ran, p .counted, p .logged) (record {
+        accesses = result .log;
+        is-log = used-words result log;
+        to-registers = run-loggable (Call.write-pages a bytes) (length log / 2) rs;
+        claim = power-cut a bytes (all-bytes bytes octets) (length log / 2) rs;
+      })

@@ -10,7 +10,7 @@ use Rattle.qspi_operation.specs.Step.{isGoing}
 use Rattle.qspi_operation.specs.Run.{Run, runOf}
 use Rattle.qspi_calls.specs.Starts.{writePagesOf}
 use Rattle.qspi_runs.specs.Promise.{Ended}
-use Rattle.power_cut.proofs.Promised.{promised}
+use Rattle.power_cut.proofs.Promised.{promised, saved}
 use Rattle.qspi_driver.specs.declared.Driven.{Driven}
 use Rattle.qspi_driver.specs.Driver.{Driver, Drive, drivenIf, drivenOf}
 use Rattle.qspi_driver.specs.Saved.{Saves, Untouched}
@@ -29,8 +29,8 @@ module _ (a : ℕ) (bytes rs log : List ℕ) (d : Driver) {o : Op} (started : o 
       let at = decided g in
       let s : Stepped = record { op = r .driver .state .op; answer = run .answer } in
       let h : Ended s log₁ run = record { op = ap (λ (x : Driver). x .state .op) (driver-is ∙ ap (λ (x : Drive). x .driver) at); answer = refl; logged = log-is ∙ ap (λ (x : Drive). x .log) at } in
-      let p = promised a bytes rs log fits octets started h refl refl in
-      record { status = run .answer; given = answer-is ∙ ap (λ (x : Drive). x .answer) at; ran = p .ran; counted = p .counted; logged = p .logged; cut = p .cut }
+      let p = promised a bytes rs log fits started h refl refl in
+      record { status = run .answer; given = answer-is ∙ ap (λ (x : Drive). x .answer) at; ran = p .ran; counted = p .counted; logged = p .logged; cut = saved a bytes rs log octets p }
 
   pub untouched : isGoing (d .state .op .status) ≡ true → Untouched d log r log₁
   untouched g =

@@ -42,9 +42,9 @@ returns c =
     let w = c .before .before .before .before .before .before .before .before .before .before .before in
     let n = c .before .before .before .before .before .run .ensures in
     let p =
-    promise.promised (w .before .args .addr) (now (w .before .args .«data»)) (now (w .before .args .replies)) (now (w .before .args .log)) (omega (arith, w .before .good)) (λ i. omega (arith, w .shared-slice-known .given i))
-    (c .before .before .before .before .before .before .before .before .write-pages .ensures) (record { op = n .op; answer = n .answer; logged = n .logged }) (c .before .programmed .ensures) (c .finish .ensures) in
-    (p .ran, (p .counted, (p .logged, p .cut)))
+    promise.promised (w .before .args .addr) (now (w .before .args .«data»)) (now (w .before .args .replies)) (now (w .before .args .log)) (omega (arith, w .before .good)) (c .before .before .before .before .before .before .before .before .write-pages .ensures)
+    (record { op = n .op; answer = n .answer; logged = n .logged }) (c .before .programmed .ensures) (c .finish .ensures) in
+    (p .ran, (p .counted, (p .logged, promise.saved (w .before .args .addr) (now (w .before .args .«data»)) (now (w .before .args .replies)) (now (w .before .args .log)) (λ i. omega (arith, w .shared-slice-known .given i)) p)))
 
 pub write-pages-spec : {M : Type 1} → statement M
 write-pages-spec =
