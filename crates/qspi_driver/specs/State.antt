@@ -17,9 +17,13 @@ use Rattle.qspi_driver.specs.declared.state.Number.the-variants.{Of, Wit
 use Rattle.qspi_driver.specs.declared.state.Acted.{Acted}
 use Rattle.qspi_driver.specs.declared.state.Progress.{Progress}
 
--- 01's number of an answer; it has none for a start while an operation has not ended
+abbrev pub numberUnless : Bool → ℕ → Number
+numberUnless true n = Without
+numberUnless false n = Of n
+
+-- 01's number of an answer; it has none for an operation that goes on, nor for a start while one has not ended
 abbrev pub numberIn : Answer → Number
-numberIn (Given a) = Of (numberOf a)
+numberIn (Given a) = numberUnless (isGoing a) (numberOf a)
 numberIn Busy = Without
 
 -- an operation at hand

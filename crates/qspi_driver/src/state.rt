@@ -4,8 +4,9 @@ ghost use mathlib.Core.Path.{_≡_};
 ghost use lib.ListN.{length};
 ghost use Rattle.zedboard_bsp.specs.Words.{topByte};
 ghost use Rattle.zedboard_bsp.specs.DeviceId.{baseBytes, extendedBytes, replyBytes, longReplyBytes};
-ghost use Rattle.qspi_operation.specs.Step.{dueOf, logOf, bufferOf, replyOf};
-ghost use Rattle.qspi_driver.specs.State.{numberIn, begunOf, actedBy, steppedOf, progressOf, isUnderWay};
+ghost use Rattle.qspi_script.specs.Stages.{numberOf};
+ghost use Rattle.qspi_operation.specs.Step.{isGoing, dueOf, logOf, bufferOf, replyOf};
+ghost use Rattle.qspi_driver.specs.State.{numberUnless, numberIn, begunOf, actedBy, steppedOf, progressOf, isUnderWay};
 use qspi_operation::Asked;
 use qspi_operation::Op;
 use qspi_operation::Reply;
@@ -34,12 +35,23 @@ pub enum Number {
     Without,
 }
 
+// The number of a status, unless the operation goes on.
+fn number_of(status: Status) -> Number
+    ensures number { λ r. ⌜ r ≡ numberUnless (isGoing status) (numberOf status) ⌝ }
+{
+    if qspi_operation::is_going(status) {
+        Number::Without
+    } else {
+        Number::Of(status.number())
+    }
+}
+
 impl Answer {
     pub fn number(self) -> Number
         ensures number { λ r. ⌜ r ≡ numberIn self ⌝ }
     {
         match self {
-            Answer::Given(status) => Number::Of(status.number()),
+            Answer::Given(status) => number_of(status),
             Answer::Busy => Number::Without,
         }
     }

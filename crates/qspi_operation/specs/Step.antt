@@ -2,9 +2,10 @@
 -- state can bring on".
 use Prim.Native.Nat.{ℕ, _+_, _%_, _^_}
 use mathlib.Core.Bool.{Bool, true, false, cond, _&&_}
-use mathlib.Core.List.{List}
+use mathlib.Core.List.{List, [], _∷_}
 use lib.Dec.{ltb, leb, eqb}
 use lib.ListN.{length, getD, set}
+use Rattle.zynq7000.specs.Number as paper
 use Rattle.qspi_transfer.specs.LowLevel.{sequenceDue, chipSelectHigh, chipSelectLow, started}
 use Rattle.qspi_transfer.specs.Wire.{freshWire, pickWire, wireNext}
 use Rattle.qspi_transfer.specs.declared.Due.{Due}
@@ -89,6 +90,13 @@ dueOf o bytes =
     pickAsked (isGoing (o .status))
     (pickAsked (eqb (length bytes) (o .job .lent .«data»)) (shown (accessOf (o .job) (o .place) (o .wire) bytes)) asked.LentLengthChanged)
     asked.Nothing
+
+-- its number and values: of an access what its log words will be, as far as they are known beforehand; none where the operation has ended
+abbrev pub askedAnswer : Asked → paper.Answer
+askedAnswer (asked.Read o) = paper.accepted ((0x100 + o) ∷ [])
+askedAnswer (asked.Write o v) = paper.accepted (o ∷ v ∷ [])
+askedAnswer asked.Nothing = paper.accepted []
+askedAnswer asked.LentLengthChanged = paper.refused paper.LentLengthChanged
 
 -- ---- what a step does
 

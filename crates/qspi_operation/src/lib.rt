@@ -7,7 +7,7 @@ ghost use lib.ListN.{length};
 ghost use Rattle.qspi_transfer.specs.Wire.{wireNext};
 ghost use Rattle.qspi_script.specs.Stages.{frameOf};
 ghost use Rattle.qspi_script.specs.declared.Status.the-variants.{Going};
-ghost use Rattle.qspi_operation.specs.Step.{isGoing, registerAccess, sendAccess, turnedOn, accessOf, shown, dueOf, answered, sameLengths, going, stopped, counted, written, replyOf, stepOf, logOf, bufferOf, programmedOf};
+ghost use Rattle.qspi_operation.specs.Step.{isGoing, registerAccess, sendAccess, turnedOn, accessOf, shown, dueOf, askedAnswer, answered, sameLengths, going, stopped, counted, written, replyOf, stepOf, logOf, bufferOf, programmedOf};
 ghost use Rattle.qspi_operation.specs.Pass.{isOn, passedBy, standsFor, Onward};
 ghost use Rattle.qspi_operation.specs.Run.{runOf, Ran};
 use qspi_script::Job;
@@ -47,6 +47,20 @@ pub enum Asked {
     Write(u8, u32),
     Nothing,
     LentLengthChanged,
+}
+
+impl Asked {
+    // Document 01's number: 25, or 0 where nothing is refused.
+    pub fn number(self) -> u32
+        ensures number { λ r. ⌜ r ≡ askedAnswer self .number ⌝ }
+    {
+        match self {
+            Asked::Read(_) => 0,
+            Asked::Write(_, _) => 0,
+            Asked::Nothing => 0,
+            Asked::LentLengthChanged => 25,
+        }
+    }
 }
 
 // The operation after a step, and what the step answers.
