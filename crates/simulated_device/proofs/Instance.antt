@@ -27,10 +27,10 @@ use Rattle.qspi_operation.specs.declared.Reply.the-variants.{Word, Nothing}
 use Rattle.qspi_operation.specs.declared.Verdict.{Verdict}
 use Rattle.qspi_operation.specs.declared.Verdict.the-variants.{Ended, Changed, Full, Dry, Made}
 use Rattle.qspi_operation.specs.Step.{isGoing, accessOf, shown, pickAsked, dueOf, answered, choose, sameLengths, verdictOf, act, movedBy, counted, noted, written}
-use Rattle.qspi_operation.proofs.Runs.{kept, buffer-kept}
+use Rattle.qspi_operation.proofs.Runs.{kept}
 use Rattle.qspi_operation.proofs.Verdicts.{makes}
 use Rattle.power_cut.specs.Flash.{Array, Work, programming, erasing, done, erased, programmed, Spares, flash, AfterCut}
-use Rattle.power_cut.specs.Controller.{still, Rests, rests, flashOf}
+use Rattle.power_cut.specs.Controller.{Rests, rests, flashOf}
 use Rattle.power_cut.specs.Controller as controller
 use Rattle.simulated_device.specs.Replies.{byteAt}
 use Rattle.simulated_device.specs.Simulated.{Sim, simOf, atRest, readOf, writeOf}
@@ -58,17 +58,6 @@ take-written log at first v p =
 
 -- ---- what a verdict keeps
 
-act-job : (v : Verdict) (o : Op) → act v o .op .job ≡ o .job
-act-job Ended o = refl
-act-job Changed o = refl
-act-job Full o = refl
-act-job Dry o = refl
-act-job (Made first v read) o = go (wireNext (o .wire) (frameOf (o .job) (o .place)) v)
-  where
-    go : (m : Moved) → movedBy m o (o .used + 2) (counted read (o .replies)) .op .job ≡ o .job
-    go (On w) = refl
-    go Over = refl
-
 used-made : (o : Op) (first v : ℕ) (read : Bool) → act (Made first v read) o .op .used ≡ o .used + 2
 used-made o first v read = go (wireNext (o .wire) (frameOf (o .job) (o .place)) v)
   where
@@ -92,12 +81,11 @@ same-log (Made first v read) at log h = absurd (true≢false h)
 
 -- ---- where a run stands
 
--- the log so far is a trace to where the device stands, and each lent length is that of the start
+-- the log so far is a trace to where the device stands
 pub record Stage (bytes : List ℕ) (base : ℕ) (before : controller.Device) (l : List Access) (t : Turn) : Type 0 where
   pub is-log : take (t .ran .op .used) (t .log) ≡ encode l
   pub within : t .ran .op .used ≤ length (t .log)
   pub leads : Leads before l (simIn t)
-  pub lengths : sameLengths (t .ran .op .job) (length bytes) (length (t .buffer)) (length (t .log)) ≡ true
   pub based : t .ran .device .choices .base ≡ base
 
 -- the same run with some accesses more
@@ -112,33 +100,26 @@ module _ (bytes : List ℕ) (base : ℕ) (before : controller.Device) (o : Op) (
   abbrev after : Turn
   after = stepped o bytes buffer log r s
 
-  lengths-kept : sameLengths (o .job) (length bytes) (length buffer) (length log) ≡ true
-      → sameLengths (after .ran .op .job) (length bytes) (length (after .buffer)) (length (after .log)) ≡ true
-  lengths-kept h = rw (act-job verdict o, buffer-kept o bytes buffer (length log) r, kept o bytes (length buffer) log r) h
-
   -- a step that makes no access
   no-access : makes verdict ≡ false → (l : List Access) → take (o .used) log ≡ encode l → o .used ≤ length log → Leads before l s
-      → sameLengths (o .job) (length bytes) (length buffer) (length log) ≡ true → s .device .choices .base ≡ base → Stage bytes base before l after
-  no-access m l e p x h b = record {
+      → s .device .choices .base ≡ base → Stage bytes base before l after
+  no-access m l e p x b = record {
     is-log = rw (same-used verdict o m, same-log verdict (o .used) log m) e;
     within = rw (same-used verdict o m, kept o bytes (length buffer) log r) p;
     leads = x;
-    lengths = lengths-kept h;
     based = b;
   }
 
   -- a step that makes one
   an-access : (a : Access) (read : Bool) → verdict ≡ Made (firstWord a) (valueWord a) read → o .used + 2 ≤ length log → (l : List Access) → take (o .used) log ≡ encode l
-      → Leads before (l ++ a ∷ []) s → sameLengths (o .job) (length bytes) (length buffer) (length log) ≡ true → s .device .choices .base ≡ base
-      → Stage bytes base before (l ++ a ∷ []) after
-  an-access a read m p l e x h b =
+      → Leads before (l ++ a ∷ []) s → s .device .choices .base ≡ base → Stage bytes base before (l ++ a ∷ []) after
+  an-access a read m p l e x b =
       let u : after .ran .op .used ≡ o .used + 2 = ap (λ (z : Verdict). act z o .op .used) m ∙ used-made o (firstWord a) (valueWord a) read in
       let w : after .log ≡ written log (o .used) (firstWord a) (valueWord a) = ap (λ (z : Verdict). noted z (o .used) log) m in
       record {
         is-log = ap (λ (z : ℕ). take z (after .log)) u ∙ (ap (take (o .used + 2)) w ∙ (take-written log (o .used) (firstWord a) (valueWord a) p ∙ (ap (λ (z : List ℕ). z ++ firstWord a ∷ valueWord a ∷ []) e ∙ sym (encode-snoc l a))));
         within = rw (u, kept o bytes (length buffer) log r) p;
         leads = x;
-        lengths = lengths-kept h;
         based = b;
       }
 
@@ -166,6 +147,11 @@ no-room true true x = refl
 no-room true false x = refl
 no-room false l x = refl
 
+-- nor one for which another length is lent than at the start
+no-lengths : (g f : Bool) (x : Verdict) → makes (choose g (choose false (choose f x Full) Changed) Ended) ≡ false
+no-lengths true f x = refl
+no-lengths false f x = refl
+
 first-of : (a b : Bool) → (a && b) ≡ true → a ≡ true
 first-of true b h = refl
 first-of false b h = absurd (true≢false (sym h))
@@ -177,7 +163,7 @@ module _ (bytes : List ℕ) (base : ℕ) (before : controller.Device) (replies :
   -- the driver makes no access, and the device stands as it does
   idles : (r : Reply) → makes (verdictOf o bytes (length (t .buffer)) (length (t .log)) r) ≡ false → Further bytes base before (stepped o bytes (t .buffer) (t .log) r (simIn t))
   idles r m =
-      record { log = l; stage = no-access bytes base before o (t .buffer) (t .log) r (simIn t) m l (st .is-log) (st .within) (st .leads) (st .lengths) (st .based) }
+      record { log = l; stage = no-access bytes base before o (t .buffer) (t .log) r (simIn t) m l (st .is-log) (st .within) (st .leads) (st .based) }
 
   full : ltb (length (t .log) - o .used) 2 ≡ true → Further bytes base before (stepped o bytes (t .buffer) (t .log) Nothing (simIn t))
   full h =
@@ -186,11 +172,16 @@ module _ (bytes : List ℕ) (base : ℕ) (before : controller.Device) (replies :
       idles Nothing
       (rw n (no-room (isGoing (o .status)) (sameLengths (o .job) (length bytes) (length (t .buffer)) (length (t .log))) (answered (accessOf (o .job) (o .place) (o .wire) bytes) Nothing)))
 
-  module _ (room : o .used + 2 ≤ length (t .log)) where
+  unlike : sameLengths (o .job) (length bytes) (length (t .buffer)) (length (t .log)) ≡ false → Further bytes base before (stepped o bytes (t .buffer) (t .log) Nothing (simIn t))
+  unlike h =
+      idles Nothing
+      (rw h (no-lengths (isGoing (o .status)) (leb (o .used + 2) (length (t .log))) (answered (accessOf (o .job) (o .place) (o .wire) bytes) Nothing)))
+
+  module _ (alike : sameLengths (o .job) (length bytes) (length (t .buffer)) (length (t .log)) ≡ true) (room : o .used + 2 ≤ length (t .log)) where
     -- with room and the lengths of the start, what is due decides
     decided : (r : Reply) {d : Due} → isGoing (o .status) ≡ true → accessOf (o .job) (o .place) (o .wire) bytes ≡ d
         → verdictOf o bytes (length (t .buffer)) (length (t .log)) r ≡ answered d r
-    decided r g h = rw (g, st .lengths, le-leb (o .used + 2) (length (t .log)) room, h)
+    decided r g h = rw (g, alike, le-leb (o .used + 2) (length (t .log)) room, h)
 
     ended-idles : isGoing (o .status) ≡ false → makes (verdictOf o bytes (length (t .buffer)) (length (t .log)) Nothing) ≡ false
     ended-idles g = rw g
@@ -204,7 +195,7 @@ module _ (bytes : List ℕ) (base : ℕ) (before : controller.Device) (replies :
         let y = on (st .leads) (reads (simIn t) (st .leads .after) (st .leads .standing) x) in
         record {
           log = l ++ access.Read x v ∷ [];
-          stage = an-access bytes base before o (t .buffer) (t .log) (Word v) (afterRead (simIn t) x) (access.Read x v) true (decided (Word v) g h) room l (st .is-log) y (st .lengths) (ap (λ (c : Choices). c .base) (read-choices (simIn t) x) ∙ st .based);
+          stage = an-access bytes base before o (t .buffer) (t .log) (Word v) (afterRead (simIn t) x) (access.Read x v) true (decided (Word v) g h) room l (st .is-log) y (ap (λ (c : Choices). c .base) (read-choices (simIn t) x) ∙ st .based);
         }
     read-turn x g h false = idles Nothing (ap makes (decided Nothing g h))
 
@@ -219,30 +210,31 @@ module _ (bytes : List ℕ) (base : ℕ) (before : controller.Device) (replies :
             rw n
             (record {
               log = l ++ access.Write x v ∷ [];
-              stage = an-access bytes base before o (t .buffer) (t .log) Nothing (afterWrite (writeOf (simIn t) x v)) (access.Write x v) false (decided Nothing g h) room l (st .is-log) (on (st .leads) z) (st .lengths) based₁;
+              stage = an-access bytes base before o (t .buffer) (t .log) Nothing (afterWrite (writeOf (simIn t) x v)) (access.Write x v) false (decided Nothing g h) room l (st .is-log) (on (st .leads) z) based₁;
             })
         go (not-made n z) =
             rw n
             (record {
               log = l;
-              stage = record { is-log = st .is-log; within = st .within; leads = subst (λ (k : List Access). Leads before k (afterWrite (writeOf (simIn t) x v))) (append-nil l) (on (st .leads) z); lengths = st .lengths; based = based₁ };
+              stage = record { is-log = st .is-log; within = st .within; leads = subst (λ (k : List Access). Leads before k (afterWrite (writeOf (simIn t) x v))) (append-nil l) (on (st .leads) z); based = based₁ };
             })
 
     due-turn : (a : Asked) → Knows o bytes a → (b : Bool) → Further bytes base before (met a b)
     due-turn a (reading {x} g h) b = read-turn x g h b
     due-turn a (writing {x} {v} g h) b = write-turn x v g h b
     due-turn a (ended g) b = idles Nothing (ended-idles g)
-    due-turn a (changed h) b = absurd (true≢false (sym (first-of (eqb (length bytes) (o .job .lent .«data»)) _ (st .lengths)) ∙ h))
+    due-turn a (changed h) b = absurd (true≢false (sym (first-of (eqb (length bytes) (o .job .lent .«data»)) _ alike) ∙ h))
 
   turn-on : Further bytes base before (turnOf replies bytes t)
-  turn-on = go (ltb (length (t .log) - o .used) 2) refl
+  turn-on = go (sameLengths (o .job) (length bytes) (length (t .buffer)) (length (t .log))) (ltb (length (t .log) - o .used) 2) refl refl
     where
-      go : (b : Bool) → ltb (length (t .log) - o .used) 2 ≡ b
-          → Further bytes base before (afterMeeting (metOn (cond b asked.Nothing (dueOf o bytes)) (ltb (o .replies) replies) (simIn t)) o (t .ran .answer) bytes (t .buffer) (t .log))
-      go true h = full h
-      go false h =
-          let p = ltb-false (length (t .log) - o .used) 2 h in
-          due-turn (omega arith) (dueOf o bytes) (knows o bytes) (ltb (o .replies) replies)
+      go : (s b : Bool) → sameLengths (o .job) (length bytes) (length (t .buffer)) (length (t .log)) ≡ s → ltb (length (t .log) - o .used) 2 ≡ b
+          → Further bytes base before (afterMeeting (metOn (cond s (cond b asked.Nothing (dueOf o bytes)) asked.Nothing) (ltb (o .replies) replies) (simIn t)) o (t .ran .answer) bytes (t .buffer) (t .log))
+      go false b h k = unlike h
+      go true true h k = full k
+      go true false h k =
+          let p = ltb-false (length (t .log) - o .used) 2 k in
+          due-turn h (omega arith) (dueOf o bytes) (knows o bytes) (ltb (o .replies) replies)
 
 -- ---- a run
 
@@ -306,35 +298,11 @@ module _ (ch : Choices) (sent received array : List ℕ) where
     left = subst (λ (b : ℕ). AfterCut (flashOf (f .stage .leads .after)) (λ (x : ℕ). byteAt (t .array) b x)) (f .stage .based) (may-leave (simIn t) (f .stage .leads .after) (f .stage .leads .standing));
   }
 
-  -- another length is lent than at the start: no access is made
-  no-lengths : (g f : Bool) (x : Verdict) → makes (choose g (choose false (choose f x Full) Changed) Ended) ≡ false
-  no-lengths true f x = refl
-  no-lengths false f x = refl
-
   -- every run is an instance
   pub instance : (o : Op) (replies : ℕ) (bytes buffer log : List ℕ) → o .used ≡ 0
       → Instance (ch .base) array (simulated replies bytes (beginning o (atRest ch) buffer log sent received array))
   unfolding simulated encode
-  instance o replies bytes buffer log u = go (sameLengths (o .job) (length bytes) (length buffer) (length log)) refl
-    where
-      first : Turn
-      first = beginning o (atRest ch) buffer log sent received array
-
-      go : (b : Bool) → sameLengths (o .job) (length bytes) (length buffer) (length log) ≡ b
-          → Instance (ch .base) array (cond b (turns (suc (length log)) replies bytes first) (stepped o bytes buffer log Nothing (simIn first)))
-      go true h =
-          let stage : Stage bytes (ch .base) start [] first = record { is-log = rw u; within = rw u (omega arith); leads = nowhere stands-at-rest; lengths = h; based = refl } in
-          ran bytes _ (all-turns bytes (ch .base) start replies (suc (length log)) first (record { log = []; stage = stage }))
-      go false h =
-          let v = verdictOf o bytes (length buffer) (length log) Nothing in
-          let m : makes (verdictOf o bytes (length buffer) (length log) Nothing) ≡ false =
-          rw h (no-lengths (isGoing (o .status)) (leb (o .used + 2) (length log)) (answered (accessOf (o .job) (o .place) (o .wire) bytes) Nothing)) in
-          record {
-            accesses = [];
-            is-log = ap (λ (n : ℕ). take n (noted v (o .used) log)) (same-used v o m ∙ u);
-            before = start;
-            after = start;
-            rests = rests-so;
-            trace = still;
-            left = may-leave resting-sim start stands-at-rest;
-          }
+  instance o replies bytes buffer log u =
+      let first = beginning o (atRest ch) buffer log sent received array in
+      let stage : Stage bytes (ch .base) start [] first = record { is-log = rw u; within = rw u (omega arith); leads = nowhere stands-at-rest; based = refl } in
+      ran bytes _ (all-turns bytes (ch .base) start replies (suc (length log)) first (record { log = []; stage = stage }))

@@ -13,6 +13,8 @@ use Rattle.qspi_operation.specs.declared.Reply.the-variants.{Word, Nothing}
 use Rattle.qspi_operation.specs.Step.{isGoing, dueOf, stepOf, logOf, bufferOf, sameLengths}
 use Rattle.simulated_device.specs.Simulated.{Sim, simOf, passed, readOf, After, writeOf}
 use Rattle.simulated_device.specs.declared.Device.{Device}
+use Rattle.simulated_device.specs.declared.Given.{Given}
+use Rattle.simulated_device.specs.declared.Written.{Written}
 use Rattle.simulated_device.specs.declared.run.Met.{Met}
 use Rattle.simulated_device.specs.declared.run.Ran.{Ran}
 
@@ -59,6 +61,12 @@ pub record Meeting : Type 0 where
 abbrev pub metOf : Meeting → Met
 metOf m = record { device = m .sim .device; reply = m .reply; refused = m .refused }
 
+abbrev pub metRead : Given → Met
+metRead g = record { device = g .device; reply = Word (g .value); refused = false }
+
+abbrev pub metWrite : Written → Met
+metWrite w = record { device = w .device; reply = Nothing; refused = w .refused }
+
 abbrev pub nothingFor : Sim → Meeting
 nothingFor s = record { reply = Nothing; sim = s; refused = false }
 
@@ -70,9 +78,10 @@ metOn (asked.Write o v) left s = record { reply = Nothing; sim = afterWrite (wri
 metOn asked.Nothing left s = nothingFor s
 metOn asked.LentLengthChanged left s = nothingFor s
 
--- without room the step is 24, and the device sees nothing of it
-abbrev pub dueIn : Op → List ℕ → ℕ → Asked
-dueIn o bytes room = cond (ltb (room - o .used) 2) asked.Nothing (dueOf o bytes)
+-- where another length is lent than at the start the step is 25, and without room 24: the device sees nothing of it
+abbrev pub dueIn : Op → List ℕ → ℕ → ℕ → Asked
+dueIn o bytes buffer room =
+    cond (sameLengths (o .job) (length bytes) buffer room) (cond (ltb (room - o .used) 2) asked.Nothing (dueOf o bytes)) asked.Nothing
 
 abbrev pub afterMeeting : Meeting → Op → Status → List ℕ → List ℕ → List ℕ → Turn
 afterMeeting m o a bytes buffer log =
@@ -81,7 +90,7 @@ afterMeeting m o a bytes buffer log =
 -- one step; at most so many reads get a reply
 abbrev pub turnOf : ℕ → List ℕ → Turn → Turn
 turnOf replies bytes t =
-    afterMeeting (metOn (dueIn (t .ran .op) bytes (length (t .log))) (ltb (t .ran .op .replies) replies) (simIn t)) (t .ran .op) (t .ran .answer) bytes (t .buffer) (t .log)
+    afterMeeting (metOn (dueIn (t .ran .op) bytes (length (t .buffer)) (length (t .log))) (ltb (t .ran .op .replies) replies) (simIn t)) (t .ran .op) (t .ran .answer) bytes (t .buffer) (t .log)
 
 abbrev pub goesOn : Ran → Bool
 goesOn r = cond (r .refused) false (isGoing (r .answer))
@@ -91,13 +100,10 @@ unfoldable pub turns : ℕ → ℕ → List ℕ → Turn → Turn
 turns zero replies bytes t = t
 turns (suc n) replies bytes t = cond (goesOn (t .ran)) (turns n replies bytes (turnOf replies bytes t)) t
 
--- to the end: each step but the last takes two words of log. Where another length is lent than at the start, one step answers 25.
+-- to the end: each step but the last takes two words of log
 unfoldable pub simulated : ℕ → List ℕ → Turn → Turn
 unfolding turns
-simulated replies bytes t =
-    cond (sameLengths (t .ran .op .job) (length bytes) (length (t .buffer)) (length (t .log)))
-    (turns (suc (length (t .log))) replies bytes t)
-    (stepped (t .ran .op) bytes (t .buffer) (t .log) Nothing (simIn t))
+simulated replies bytes t = turns (suc (length (t .log))) replies bytes t
 
 abbrev pub beginning : Op → Device → List ℕ → List ℕ → List ℕ → List ℕ → List ℕ → Turn
 beginning o d buffer log sent received array =

@@ -1,13 +1,14 @@
 // A call of the driver against the device, access by access.
 ghost use mathlib.Core.Path.{_≡_};
 ghost use mathlib.Core.Bool.{false};
-ghost use Prim.Native.Nat.{suc, _-_};
-ghost use lib.ListN.{length};
+ghost use Prim.Native.Nat.{_-_};
 ghost use Rattle.qspi_operation.specs.declared.Reply.the-variants.{Nothing};
-ghost use Rattle.qspi_operation.specs.Step.{stepOf, logOf, bufferOf, sameLengths};
+ghost use Rattle.qspi_operation.specs.Step.{sameLengths};
 ghost use Rattle.simulated_device.specs.Simulated.{simOf};
-ghost use Rattle.simulated_device.specs.Running.{ranOf, metOf, metOn, dueIn, goesOn, turnOf, turns, beginning, simulated};
+ghost use Rattle.simulated_device.specs.Running.{metOf, metRead, metWrite, metOn, dueIn, beginning, simulated};
 use crate::Device;
+use crate::Given;
+use crate::Written;
 use qspi_operation::Asked;
 use qspi_operation::Op;
 use qspi_operation::Reply;
@@ -28,42 +29,6 @@ pub struct Met {
     pub refused: bool,
 }
 
-// A step of the driver, while the device stands so.
-fn stepped(
-    op: Op,
-    data: &[u8],
-    buffer: &mut [u8],
-    log: &mut [u32],
-    reply: Reply,
-    device: Device,
-) -> Ran
-    ensures ran { λ r. ⌜ r ≡ ranOf (stepOf op (now («data» .entry)) (length (now (buffer .entry))) (length (now (log .entry))) reply .op) (stepOf op (now («data» .entry)) (length (now (buffer .entry))) (length (now (log .entry))) reply .answer) device false ⌝ }
-    ensures buffer { λ _. ⌜ now (buffer .exit) ≡ bufferOf op (now («data» .entry)) (now (buffer .entry)) (length (now (log .entry))) reply ⌝ }
-    ensures log { λ _. ⌜ now (log .exit) ≡ logOf op (now («data» .entry)) (length (now (buffer .entry))) (now (log .entry)) reply ⌝ }
-{
-    let s = qspi_operation::step(op, data, buffer, log, reply);
-    let op = s.op;
-    let answer = s.answer;
-    Ran {
-        op,
-        answer,
-        device,
-        refused: false,
-    }
-}
-
-// Whether a step is due and the device can go on.
-fn goes_on(r: Ran) -> bool
-    ensures on { λ x. ⌜ x ≡ goesOn r ⌝ }
-{
-    let answer = r.answer;
-    if r.refused {
-        false
-    } else {
-        qspi_operation::is_going(answer)
-    }
-}
-
 // The words of log that are left.
 fn room(length: usize, used: usize) -> usize
     ensures room { λ r. ⌜ r ≡ length - used ⌝ }
@@ -71,11 +36,28 @@ fn room(length: usize, used: usize) -> usize
     if used < length { length - used } else { 0 }
 }
 
-// Without room the driver answers 24, and the device sees nothing of it.
-fn due_in(op: Op, data: &[u8], length: usize) -> Asked
-    ensures due { λ r. ⌜ r ≡ dueIn op (now («data» .entry)) length ⌝ }
+// Whether each lent length is the one of the start.
+fn same_lengths(op: Op, data: usize, buffer: usize, log: usize) -> bool
+    ensures same { λ r. ⌜ r ≡ sameLengths (op .job) «data» buffer log ⌝ }
 {
-    if room(length, op.used) < 2 {
+    let job = op.job;
+    let lent = job.lent;
+    if data == lent.data {
+        if buffer == lent.buffer {
+            return log == lent.log;
+        }
+    }
+    false
+}
+
+// Another lent length than at the start is answered 25, and no room 24: the device sees nothing of it.
+fn due_in(op: Op, data: &[u8], buffer: usize, log: usize) -> Asked
+    ensures due { λ r. ⌜ r ≡ dueIn op (now («data» .entry)) buffer log ⌝ }
+{
+    if !same_lengths(op, data.len(), buffer, log) {
+        return Asked::Nothing;
+    }
+    if room(log, op.used) < 2 {
         return Asked::Nothing;
     }
     qspi_operation::due(op, data)
@@ -88,6 +70,28 @@ fn nothing_for(device: Device) -> Met
         device,
         reply: Reply::Nothing,
         refused: false,
+    }
+}
+
+fn met_read(given: Given) -> Met
+    ensures met { λ r. ⌜ r ≡ metRead given ⌝ }
+{
+    let device = given.device;
+    Met {
+        device,
+        reply: Reply::Word(given.value),
+        refused: false,
+    }
+}
+
+fn met_write(written: Written) -> Met
+    ensures met { λ r. ⌜ r ≡ metWrite written ⌝ }
+{
+    let device = written.device;
+    Met {
+        device,
+        reply: Reply::Nothing,
+        refused: written.refused,
     }
 }
 
@@ -108,115 +112,22 @@ fn meet(
     match due {
         Asked::Read(offset) => {
             if is_left {
-                let given = crate::read(device, offset, sent, received, array);
-                let after = given.device;
-                Met {
-                    device: after,
-                    reply: Reply::Word(given.value),
-                    refused: false,
-                }
-            } else {
-                nothing_for(device)
+                return met_read(crate::read(device, offset, sent, received, array));
             }
         }
         Asked::Write(offset, value) => {
-            let written = crate::write(device, offset, value, sent, received, array);
-            let after = written.device;
-            Met {
-                device: after,
-                reply: Reply::Nothing,
-                refused: written.refused,
-            }
+            return met_write(crate::write(device, offset, value, sent, received, array));
         }
-        Asked::Nothing => nothing_for(device),
-        Asked::LentLengthChanged => nothing_for(device),
+        Asked::Nothing => {}
+        Asked::LentLengthChanged => {}
     }
-}
-
-// One step.
-fn turn(
-    r: Ran,
-    replies: usize,
-    data: &[u8],
-    buffer: &mut [u8],
-    log: &mut [u32],
-    sent: &mut [u8],
-    received: &mut [u32],
-    array: &mut [u8],
-) -> Ran
-    ensures ran { λ x. ⌜ x ≡ turnOf replies (now («data» .entry)) (record { ran = r; buffer = now (buffer .entry); log = now (log .entry); sent = now (sent .entry); received = now (received .entry); array = now (array .entry) }) .ran ⌝ }
-    ensures buffer { λ _. ⌜ now (buffer .exit) ≡ turnOf replies (now («data» .entry)) (record { ran = r; buffer = now (buffer .entry); log = now (log .entry); sent = now (sent .entry); received = now (received .entry); array = now (array .entry) }) .buffer ⌝ }
-    ensures log { λ _. ⌜ now (log .exit) ≡ turnOf replies (now («data» .entry)) (record { ran = r; buffer = now (buffer .entry); log = now (log .entry); sent = now (sent .entry); received = now (received .entry); array = now (array .entry) }) .log ⌝ }
-    ensures sent { λ _. ⌜ now (sent .exit) ≡ turnOf replies (now («data» .entry)) (record { ran = r; buffer = now (buffer .entry); log = now (log .entry); sent = now (sent .entry); received = now (received .entry); array = now (array .entry) }) .sent ⌝ }
-    ensures received { λ _. ⌜ now (received .exit) ≡ turnOf replies (now («data» .entry)) (record { ran = r; buffer = now (buffer .entry); log = now (log .entry); sent = now (sent .entry); received = now (received .entry); array = now (array .entry) }) .received ⌝ }
-    ensures array { λ _. ⌜ now (array .exit) ≡ turnOf replies (now («data» .entry)) (record { ran = r; buffer = now (buffer .entry); log = now (log .entry); sent = now (sent .entry); received = now (received .entry); array = now (array .entry) }) .array ⌝ }
-{
-    let op = r.op;
-    let device = r.device;
-    let due = due_in(op, data, log.len());
-    let met = meet(due, op.replies < replies, device, sent, received, array);
-    let after = met.device;
-    let reply = met.reply;
-    if met.refused {
-        let answer = r.answer;
-        return Ran {
-            op,
-            answer,
-            device: after,
-            refused: true,
-        };
-    }
-    stepped(op, data, buffer, log, reply, after)
-}
-
-// At most one step more than there are words of log.
-fn turns(
-    r: Ran,
-    replies: usize,
-    data: &[u8],
-    buffer: &mut [u8],
-    log: &mut [u32],
-    sent: &mut [u8],
-    received: &mut [u32],
-    array: &mut [u8],
-) -> Ran
-    ensures ran { λ x. ⌜ x ≡ turns (suc (length (now (log .entry)))) replies (now («data» .entry)) (record { ran = r; buffer = now (buffer .entry); log = now (log .entry); sent = now (sent .entry); received = now (received .entry); array = now (array .entry) }) .ran ⌝ }
-    ensures buffer { λ _. ⌜ now (buffer .exit) ≡ turns (suc (length (now (log .entry)))) replies (now («data» .entry)) (record { ran = r; buffer = now (buffer .entry); log = now (log .entry); sent = now (sent .entry); received = now (received .entry); array = now (array .entry) }) .buffer ⌝ }
-    ensures log { λ _. ⌜ now (log .exit) ≡ turns (suc (length (now (log .entry)))) replies (now («data» .entry)) (record { ran = r; buffer = now (buffer .entry); log = now (log .entry); sent = now (sent .entry); received = now (received .entry); array = now (array .entry) }) .log ⌝ }
-    ensures sent { λ _. ⌜ now (sent .exit) ≡ turns (suc (length (now (log .entry)))) replies (now («data» .entry)) (record { ran = r; buffer = now (buffer .entry); log = now (log .entry); sent = now (sent .entry); received = now (received .entry); array = now (array .entry) }) .sent ⌝ }
-    ensures received { λ _. ⌜ now (received .exit) ≡ turns (suc (length (now (log .entry)))) replies (now («data» .entry)) (record { ran = r; buffer = now (buffer .entry); log = now (log .entry); sent = now (sent .entry); received = now (received .entry); array = now (array .entry) }) .received ⌝ }
-    ensures array { λ _. ⌜ now (array .exit) ≡ turns (suc (length (now (log .entry)))) replies (now («data» .entry)) (record { ran = r; buffer = now (buffer .entry); log = now (log .entry); sent = now (sent .entry); received = now (received .entry); array = now (array .entry) }) .array ⌝ }
-{
-    let mut x = r;
-    let mut left = log.len();
-    while goes_on(x) {
-        x = turn(x, replies, data, buffer, log, sent, received, array);
-        if left == 0 {
-            return x;
-        }
-        left -= 1;
-    }
-    x
-}
-
-// Whether each lent length is the one of the start.
-fn same_lengths(op: Op, data: usize, buffer: usize, log: usize) -> bool
-    ensures same { λ r. ⌜ r ≡ sameLengths (op .job) «data» buffer log ⌝ }
-{
-    let job = op.job;
-    let lent = job.lent;
-    if data == lent.data {
-        if buffer == lent.buffer {
-            return log == lent.log;
-        }
-    }
-    false
+    nothing_for(device)
 }
 
 // Steps a call to its end, each read with the reply that the device gives, so many of them at most.
 pub fn run(
-    op: Op,
-    device: Device,
+    mut op: Op,
+    mut device: Device,
     replies: usize,
     data: &[u8],
     buffer: &mut [u8],
@@ -232,15 +143,34 @@ pub fn run(
     ensures received { λ _. ⌜ now (received .exit) ≡ simulated replies (now («data» .entry)) (beginning op device (now (buffer .entry)) (now (log .entry)) (now (sent .entry)) (now (received .entry)) (now (array .entry))) .received ⌝ }
     ensures array { λ _. ⌜ now (array .exit) ≡ simulated replies (now («data» .entry)) (beginning op device (now (buffer .entry)) (now (log .entry)) (now (sent .entry)) (now (received .entry)) (now (array .entry))) .array ⌝ }
 {
-    if !same_lengths(op, data.len(), buffer.len(), log.len()) {
-        return stepped(op, data, buffer, log, Reply::Nothing, device);
+    let mut answer = op.status;
+    // At most one step more than there are words of log.
+    let mut left = log.len();
+    while qspi_operation::is_going(answer) {
+        let due = due_in(op, data, buffer.len(), log.len());
+        let met = meet(due, op.replies < replies, device, sent, received, array);
+        device = met.device;
+        let reply = met.reply;
+        if met.refused {
+            return Ran {
+                op,
+                answer,
+                device,
+                refused: true,
+            };
+        }
+        let s = qspi_operation::step(op, data, buffer, log, reply);
+        op = s.op;
+        answer = s.answer;
+        if left == 0 {
+            break;
+        }
+        left -= 1;
     }
-    let answer = op.status;
-    let r = Ran {
+    Ran {
         op,
         answer,
         device,
         refused: false,
-    };
-    turns(r, replies, data, buffer, log, sent, received, array)
+    }
 }
