@@ -251,6 +251,13 @@ pub fn with_config(d: Device, config: u32, tx: Tx, chip: Chip) -> Device
     }
 }
 
+// Config is written, and no access refused.
+fn set_config(d: Device, config: u32, tx: Tx, chip: Chip) -> Written
+    ensures written { λ r. ⌜ r ≡ accepted (withConfig d config tx chip) ⌝ }
+{
+    accepted(with_config(d, config, tx, chip))
+}
+
 fn configure(d: Device, value: u32, sent: &[u8], received: &mut [u32], array: &mut [u8]) -> Written
     ensures written { λ r. ⌜ r ≡ configured (simOf d (now (sent .entry)) (now (received .entry)) (now (array .entry))) value .written ⌝ }
     ensures received { λ _. ⌜ now (received .exit) ≡ configured (simOf d (now (sent .entry)) (now (received .entry)) (now (array .entry))) value .received ⌝ }
@@ -259,12 +266,12 @@ fn configure(d: Device, value: u32, sent: &[u8], received: &mut [u32], array: &m
     let chip = d.chip;
     if is_high(d.config) {
         let tx = d.tx;
-        return accepted(with_config(d, value, tx, chip));
+        return set_config(d, value, tx, chip);
     }
     if is_high(value) {
         return raise(d, value, sent, received, array);
     }
-    accepted(with_config(d, value, words::started(d.tx, value), chip))
+    set_config(d, value, words::started(d.tx, value), chip)
 }
 
 // A write of a register.

@@ -1,7 +1,7 @@
 // What a command does when chip select rises: the latch, and the work of a page program or a sector erase.
 ghost use mathlib.Core.Path.{_≡_};
 ghost use Prim.Native.Nat.{_+_, _-_, _≤_};
-ghost use lib.ListN.{length, getD};
+ghost use lib.ListN.{length};
 ghost use Rattle.simulated_device.specs.Simulated.{simOf, noWork, programming, erasing, askedFor, within, doneByte, doneFrom, latched, executed, raised};
 use crate::Chip;
 use crate::Device;
@@ -160,12 +160,12 @@ fn execute(d: Device, value: u32, sent: &[u8], array: &mut [u8]) -> Written
                 latch: false,
                 busy: choices.busy_reads,
             };
-            return crate::accepted(crate::with_config(d, value, crate::no_words(), busy));
+            return crate::set_config(d, value, crate::no_words(), busy);
         }
         return crate::refused(d);
     }
     let chip = latched(chip, tx.bytes, sent);
-    crate::accepted(crate::with_config(d, value, crate::no_words(), chip))
+    crate::set_config(d, value, crate::no_words(), chip)
 }
 
 // Chip select rises, once all words are out. Words that start never released are refused.

@@ -15,18 +15,15 @@ entry c =
 is-high-requires : tie.Need-is-high-requires
 is-high-requires c κs = search needs
 
-with-config-requires : tie.Need-with-config-requires
-with-config-requires c κs = search needs
-
-accepted-requires : tie.Need-accepted-requires
-accepted-requires c κs = search needs
+set-config-requires : tie.Need-set-config-requires
+set-config-requires c κs = search needs
 
 returns : tie.Need-returns
 returns c =
-    let x = c .before .before .before .before .before .before .before .before .before .args in
-    let s = entry (c .before .before .before .before .before .before .before .before .before) in
-    as-raised (high-before s (x .value) (sym (c .before .before .before .before .is-high .ensures) ∙ c .before .before .before .if1 .taken))
-    (simp (c .accepted .ensures, c .before .with-config .ensures), (refl, refl))
+    let x = c .before .before .before .before .before .before .before .before .args in
+    let s = entry (c .before .before .before .before .before .before .before .before) in
+    as-raised (high-before s (x .value) (sym (c .before .before .before .is-high .ensures) ∙ c .before .before .if1 .taken))
+    (simp (c .set-config .ensures), (refl, refl))
 
 is-high-requires-2 : tie.Need-is-high-requires-2
 is-high-requires-2 c κs = search needs
@@ -50,26 +47,22 @@ returns-2 c =
 started-requires : tie.Need-started-requires
 started-requires c κs = search needs
 
-with-config-requires-2 : tie.Need-with-config-requires-2
-with-config-requires-2 c κs = search needs
-
-accepted-requires-2 : tie.Need-accepted-requires-2
-accepted-requires-2 c κs = search needs
+set-config-requires-2 : tie.Need-set-config-requires-2
+set-config-requires-2 c κs = search needs
 
 returns-3 : tie.Need-returns-3
 returns-3 c =
-    let x = c .before .before .before .before .before .before .before .before .before .before .before .args in
-    let s = entry (c .before .before .before .before .before .before .before .before .before .before .before) in
-    as-raised (low-still s (x .value) (sym (c .before .before .before .before .before .before .is-high .ensures) ∙ c .before .before .before .before .before .if1 .left) (sym (c .before .before .before .before .is-high2 .ensures) ∙ c .before .before .before .if2 .left))
-    (simp (c .accepted2 .ensures, c .before .with-config2 .ensures, c .before .before .started .ensures), (refl, refl))
+    let x = c .before .before .before .before .before .before .before .before .before .before .args in
+    let s = entry (c .before .before .before .before .before .before .before .before .before .before) in
+    as-raised (low-still s (x .value) (sym (c .before .before .before .before .before .is-high .ensures) ∙ c .before .before .before .before .if1 .left) (sym (c .before .before .before .is-high2 .ensures) ∙ c .before .before .if2 .left))
+    (simp (c .set-config2 .ensures, c .before .started .ensures), (refl, refl))
 
 pub configure-spec : {M : Type 1} → statement M
 configure-spec =
     tie.close
     (tie.spec
     is-high-requires
-    with-config-requires
-    accepted-requires
+    set-config-requires
     returns
     is-high-requires-2
     raise-requires
@@ -77,6 +70,5 @@ configure-spec =
     same-length-2
     returns-2
     started-requires
-    with-config-requires-2
-    accepted-requires-2
+    set-config-requires-2
     returns-3)

@@ -28,21 +28,18 @@ done-requires c κs =
 no-words-requires : tie.Need-no-words-requires
 no-words-requires c κs = search needs
 
-with-config-requires : tie.Need-with-config-requires
-with-config-requires c κs = search needs
-
-accepted-requires : tie.Need-accepted-requires
-accepted-requires c κs = search needs
+set-config-requires : tie.Need-set-config-requires
+set-config-requires c κs = search needs
 
 same-length : tie.Need-same-length
 same-length c = search needs
 
 returns : tie.Need-returns
 returns c =
-    let x = c .before .before .before .before .before .before .before .before .before .before .before .before .before .before .before .before .before .before .args in
+    let x = c .before .before .before .before .before .before .before .before .before .before .before .before .before .before .before .before .before .args in
     as-executed
-    (works-done (x .d) (x .value) (now (x .sent)) (now (x .array)) (c .before .before .before .before .before .before .before .before .before .before .before .before .asked-for .result) (c .before .before .before .before .before .before .before .before .before .before .before .before .asked-for .ensures) (c .before .before .before .before .before .before .before .before .before .before .before .if1 .taken) (sym (c .before .before .before .before .before .before .before .before .before .before .within .ensures) ∙ c .before .before .before .before .before .before .before .before .before .if2 .taken))
-    (simp (c .accepted .ensures, c .before .with-config .ensures, c .before .before .no-words .ensures), c .before .before .before .before .before .done .ensures)
+    (works-done (x .d) (x .value) (now (x .sent)) (now (x .array)) (c .before .before .before .before .before .before .before .before .before .before .before .asked-for .result) (c .before .before .before .before .before .before .before .before .before .before .before .asked-for .ensures) (c .before .before .before .before .before .before .before .before .before .before .if1 .taken) (sym (c .before .before .before .before .before .before .before .before .before .within .ensures) ∙ c .before .before .before .before .before .before .before .before .if2 .taken))
+    (simp (c .set-config .ensures, c .before .no-words .ensures), c .before .before .before .before .done .ensures)
 
 refused-requires : tie.Need-refused-requires
 refused-requires c κs = search needs
@@ -60,18 +57,15 @@ latched-requires c κs = search needs
 no-words-requires-2 : tie.Need-no-words-requires-2
 no-words-requires-2 c κs = search needs
 
-with-config-requires-2 : tie.Need-with-config-requires-2
-with-config-requires-2 c κs = search needs
-
-accepted-requires-2 : tie.Need-accepted-requires-2
-accepted-requires-2 c κs = search needs
+set-config-requires-2 : tie.Need-set-config-requires-2
+set-config-requires-2 c κs = search needs
 
 returns-3 : tie.Need-returns-3
 returns-3 c =
-    let x = c .before .before .before .before .before .before .before .before .before .before .before .args in
+    let x = c .before .before .before .before .before .before .before .before .before .before .args in
     as-executed
-    (no-work-asked (x .d) (x .value) (now (x .sent)) (now (x .array)) (c .before .before .before .before .before .asked-for .result) (c .before .before .before .before .before .asked-for .ensures) (c .before .before .before .before .if1 .left))
-    (simp (c .accepted2 .ensures, c .before .with-config2 .ensures, c .before .before .no-words2 .ensures, c .before .before .before .latched .ensures), refl)
+    (no-work-asked (x .d) (x .value) (now (x .sent)) (now (x .array)) (c .before .before .before .before .asked-for .result) (c .before .before .before .before .asked-for .ensures) (c .before .before .before .if1 .left))
+    (simp (c .set-config2 .ensures, c .before .no-words2 .ensures, c .before .before .latched .ensures), refl)
 
 pub execute-spec : {M : Type 1} → statement M
 execute-spec =
@@ -83,14 +77,12 @@ execute-spec =
     cast-done
     done-requires
     no-words-requires
-    with-config-requires
-    accepted-requires
+    set-config-requires
     same-length
     returns
     refused-requires
     returns-2
     latched-requires
     no-words-requires-2
-    with-config-requires-2
-    accepted-requires-2
+    set-config-requires-2
     returns-3)
