@@ -12,7 +12,7 @@ use lib.Seq.{sets, take-all}
 use Rattle.zedboard_bsp.specs.Words.{bytesOf}
 use Rattle.qspi_operation.proofs.Verdicts.{no}
 use Rattle.power_cut.specs.Controller.{high}
-use Rattle.simulated_device.specs.Simulated.{Sim, simOf, canGo, canGoNow, wordOut, outFor, allOut, withTx, waited, passed, widthAt, doneByte, doneFrom, within, askedFor, executed, accepted, refusal, withConfig, noWords, latched, Executed, afterExecuted, risen, afterOf, configured, raised, started, wrote, writeOf, sending, afterSent, After}
+use Rattle.simulated_device.specs.Simulated.{Sim, simOf, canGo, canGoNow, wordOut, outFor, allOut, withTx, waited, passed, widthAt, doneByte, doneFrom, within, askedFor, executed, accepted, refusal, withConfig, noWords, latched, Executed, afterExecuted, risen, afterOf, configured, raised, started, wrote, writeOf, Sent, oneMore, isSent, sending, afterSent, After}
 use Rattle.simulated_device.specs.declared.Device.{Device}
 use Rattle.simulated_device.specs.declared.Rx.{Rx}
 use Rattle.simulated_device.specs.declared.Tx.{Tx}
@@ -24,6 +24,13 @@ pub getD-inside : (l : List ℕ) (i d e : ℕ) → i < length l → getD l i d �
 getD-inside [] i d e h = omega arith
 getD-inside (x ∷ l) zero d e h = refl
 getD-inside (x ∷ l) (suc i) d e h = getD-inside l i d e (omega arith)
+
+-- tests in a row, each known
+pub on-true : {A : Type 0} {b : Bool} {x : A} (y : A) {z : A} → b ≡ true → x ≡ z → cond b x y ≡ z
+on-true {A} {b} {x} y h e = ap (λ (c : Bool). cond c x y) h ∙ e
+
+pub on-false : {A : Type 0} {b : Bool} (x : A) {y z : A} → b ≡ false → y ≡ z → cond b x y ≡ z
+on-false {A} {b} x {y} h e = ap (λ (c : Bool). cond c x y) h ∙ e
 
 -- ---- words go out
 
@@ -113,6 +120,15 @@ at-most-four o = by-test (eqb o 0x1C) (eqb o 0x80) (eqb o 0x84) (eqb o 0x88)
     by-test false false true d = omega arith
     by-test false false false true = omega arith
     by-test false false false false = omega arith
+
+-- what is promised of a word, by the tests before it
+pub as-sent : (x : Sent) {y : Sent} {w : Written} {sent : List ℕ} → x ≡ y → (w ≡ y .written) × (sent ≡ y .sent) → (w ≡ x .written) × (sent ≡ x .sent)
+as-sent x e p = (p .0 ∙ sym (ap (λ (z : Sent). z .written) e), p .1 ∙ sym (ap (λ (z : Sent). z .sent) e))
+
+pub one-sent : (d : Device) (o v : ℕ) (l : List ℕ) {n : ℕ} {x : Device} {w : Written} {sent : List ℕ} → n ≡ widthAt o → x ≡ withTx d (oneMore (d .tx) n) → w ≡ accepted x
+    → sent ≡ sets l (d .tx .bytes) (take n (bytesOf v)) → (w ≡ isSent d o v l .written) × (sent ≡ isSent d o v l .sent)
+one-sent d o v l e p q k =
+    (q ∙ ap accepted (p ∙ ap (λ (n : ℕ). withTx d (oneMore (d .tx) n)) e), k ∙ ap (λ (n : ℕ). sets l (d .tx .bytes) (take n (bytesOf v))) e)
 
 -- the bytes that a width takes, one after the other
 module _ (l : List ℕ) (i w n : ℕ) where
