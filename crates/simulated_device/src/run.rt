@@ -40,11 +40,9 @@ fn room(length: usize, used: usize) -> usize
 fn same_lengths(op: Op, data: usize, buffer: usize, log: usize) -> bool
     ensures same { λ r. ⌜ r ≡ sameLengths (op .job) «data» buffer log ⌝ }
 {
-    let job = op.job;
-    let lent = job.lent;
-    if data == lent.data {
-        if buffer == lent.buffer {
-            return log == lent.log;
+    if data == op.job.lent.data {
+        if buffer == op.job.lent.buffer {
+            return log == op.job.lent.log;
         }
     }
     false

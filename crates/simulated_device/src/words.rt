@@ -101,15 +101,14 @@ pub fn pass(d: Device, sent: &[u8], received: &mut [u32], array: &[u8]) -> Devic
 }
 
 // "All words have gone out before chip select rises" (demand 3).
-pub fn all_out(d: Device, sent: &[u8], received: &mut [u32], array: &[u8]) -> Device
+pub fn all_out(mut d: Device, sent: &[u8], received: &mut [u32], array: &[u8]) -> Device
     ensures device { λ r. ⌜ r ≡ allOut (simOf d (now (sent .entry)) (now (received .entry)) (now (array .entry))) .device ⌝ }
     ensures received { λ _. ⌜ now (received .exit) ≡ allOut (simOf d (now (sent .entry)) (now (received .entry)) (now (array .entry))) .received ⌝ }
 {
-    let mut x = d;
-    while can_go(x.tx, x.rx, received.len()) {
-        x = word_out(x, sent, received, array);
+    while can_go(d.tx, d.rx, received.len()) {
+        d = word_out(d, sent, received, array);
     }
-    x
+    d
 }
 
 // ---- words are written
@@ -154,7 +153,7 @@ fn put_word(sent: &mut [u8], at: usize, word: u32, width: usize)
 }
 
 // A TX word is written. While chip select is high, or where there is no room, it is not taken.
-pub fn send(d: Device, offset: u8, value: u32, sent: &mut [u8]) -> Written
+pub fn send(mut d: Device, offset: u8, value: u32, sent: &mut [u8]) -> Written
     ensures written { λ r. ⌜ r ≡ sending d offset value (now (sent .entry)) .written ⌝ }
     ensures sent { λ _. ⌜ now (sent .exit) ≡ sending d offset value (now (sent .entry)) .sent ⌝ }
 {
@@ -180,7 +179,8 @@ pub fn send(d: Device, offset: u8, value: u32, sent: &mut [u8]) -> Written
         out: tx.out,
         pause: tx.pause,
     };
-    crate::accepted(crate::with_tx(d, tx))
+    d = crate::with_tx(d, tx);
+    crate::accepted(d)
 }
 
 // Start releases the words that wait for it.

@@ -177,8 +177,7 @@ pub fn raise(d: Device, value: u32, sent: &[u8], received: &mut [u32], array: &m
     let x = words::all_out(d, sent, received, array);
     let tx = x.tx;
     if tx.out == tx.written {
-        execute(x, value, sent, array)
-    } else {
-        crate::refused(x)
+        return execute(x, value, sent, array);
     }
+    crate::refused(x)
 }

@@ -11,11 +11,11 @@ use Rattle.simulated_device.proofs.words.all_out.Statement.{statement}
 use Rattle.simulated_device.proofs.words.all_out.Tie as tie
 
 abbrev Inv-loop : tie.InvT-loop
-Inv-loop sent received₀ array x₀ received x =
-    (allOut (simOf x₀ sent received₀ array) ≡ allOut (simOf x sent received array)) × (length received ≡ length received₀)
+Inv-loop d₀ sent received₀ array d received =
+    (allOut (simOf d₀ sent received₀ array) ≡ allOut (simOf d sent received array)) × (length received ≡ length received₀)
 
 abbrev μ-loop : tie.MeasureT-loop
-μ-loop sent received₀ array x₀ received x = x .tx .released - x .tx .out
+μ-loop d₀ sent received₀ array d received = d .tx .released - d .tx .out
 
 loop-holds : tie.Need-loop-holds Inv-loop μ-loop
 loop-holds c = (refl, refl)
@@ -30,7 +30,7 @@ loop-less : tie.Need-loop-less Inv-loop μ-loop
 loop-less c =
     let l = c .before .before .before .before .before .before .loop in
     let can = sym (c .before .before .before .before .before .can-go .ensures) ∙ c .before .before .before .before .if1 .taken in
-    let less = released-not-out (l .x .tx) (l .x .rx) (length (l .received)) can in
+    let less = released-not-out (l .d .tx) (l .d .rx) (length (l .received)) can in
     rw (c .before .before .word-out .ensures .0) (omega arith)
 
 loop-again : tie.Need-loop-again Inv-loop μ-loop
@@ -39,7 +39,7 @@ loop-again c =
     let l = c .before .before .before .before .before .before .loop in
     let can = sym (c .before .before .before .before .before .can-go .ensures) ∙ c .before .before .before .before .if1 .taken in
     rw (c .before .before .word-out .ensures .0, c .before .before .word-out .ensures .1)
-    (l .inv .0 ∙ one-goes-out (simOf (l .x) (now (x .sent)) (l .received) (now (x .array))) can, simp length-set (l .inv .1))
+    (l .inv .0 ∙ one-goes-out (simOf (l .d) (now (x .sent)) (l .received) (now (x .array))) can, simp length-set (l .inv .1))
 
 same-length : tie.Need-same-length Inv-loop μ-loop
 same-length c = search needs
@@ -48,7 +48,7 @@ returns : tie.Need-returns Inv-loop μ-loop
 returns c =
     let x = c .before .before .before .before .before .before .args in
     let l = c .before .before .loop in
-    let e = l .inv .0 ∙ none-goes-out (simOf (l .x) (now (x .sent)) (l .received) (now (x .array))) (sym (c .before .can-go .ensures) ∙ c .if1 .left) in
+    let e = l .inv .0 ∙ none-goes-out (simOf (l .d) (now (x .sent)) (l .received) (now (x .array))) (sym (c .before .can-go .ensures) ∙ c .if1 .left) in
     (sym (ap (λ (s : Sim). s .device) e), sym (ap (λ (s : Sim). s .received) e))
 
 pub all-out-spec : {M : Type 1} → statement M

@@ -18,9 +18,6 @@ all-out-requires c κs = search needs
 execute-requires : tie.Need-execute-requires
 execute-requires c κs = search needs
 
-refused-requires : tie.Need-refused-requires
-refused-requires c κs = search needs
-
 same-length : tie.Need-same-length
 same-length c = search needs
 
@@ -32,6 +29,9 @@ returns c =
     let x = c .before .before .before .before .before .before .before .before .before .before .before .before .before .before .before .args in
     let s = entry (c .before .before .before .before .before .before .before .before .before .before .before .before .before .before .before) in
     as-raised (rises s (x .value) (c .before .before .before .before .before .before .before .before .before .all-out .ensures) (c .before .before .before .before .if1 .taken)) (c .before .before .execute .ensures .0, (refl, c .before .before .execute .ensures .1))
+
+refused-requires : tie.Need-refused-requires
+refused-requires c κs = search needs
 
 same-length-3 : tie.Need-same-length-3
 same-length-3 c = search needs
@@ -51,10 +51,10 @@ raise-spec =
     (tie.spec
     all-out-requires
     execute-requires
-    refused-requires
     same-length
     same-length-2
     returns
+    refused-requires
     same-length-3
     same-length-4
     returns-2)
