@@ -1,9 +1,9 @@
 // The replies of a prompt device to a call. Document 01, "The flash, as defined here": config reads as
 // last written with bit 16 zero, and each TX word gives an RX word, here at start.
+use crate::call;
 use crate::memory;
-use qspi_operation::Asked;
-use qspi_operation::Op;
-use qspi_operation::Reply;
+use access_log::Entry;
+use zynq7000::qspi::Access;
 
 // Bits 10, 14 and 15 are set.
 const CONFIG: u32 = 0x8008_C4C1;
@@ -30,61 +30,48 @@ impl Device {
     }
 }
 
-struct After {
-    op: Op,
-    device: Device,
+// Makes the replies that a call uses, from the first on, and some that it does not.
+pub fn replies(call: u32, addr: u32, length: usize, replies: &mut [u32]) {
+    let mut at = 0;
+    while at < replies.len() {
+        let word = reply(call, addr, length, &replies[0..at + 1]);
+        replies[at] = word;
+        at += 1;
+    }
 }
 
-// Makes the replies that a call uses, and returns how many there are.
-pub fn replies(op: Op, data: &[u8], replies: &mut [u32]) -> usize {
+// The last of these replies as it should be: the call is run on them, and its log says what was asked.
+fn reply(call: u32, addr: u32, length: usize, replies: &[u32]) -> u32 {
     let mut buffer = [0u8; memory::BUFFER];
     let mut log = [0u32; memory::LOG];
-    let len = memory::lent(op, buffer.len());
-    serve(op, data, &mut buffer[0..len], &mut log, replies)
+    let end = call::run(false, call, addr, length, &mut buffer, &mut log, replies);
+    last_reply(memory::front(&log, end.used))
 }
 
-// Steps a call to its end, for which the turns suffice: each step takes two words of log.
-fn serve(op: Op, data: &[u8], buffer: &mut [u8], log: &mut [u32], replies: &mut [u32]) -> usize {
-    let mut o = op;
+// What the device answers to the last read of a log.
+fn last_reply(log: &[u32]) -> u32 {
+    let made = access_log::accesses(log);
     let mut d = Device::new(CONFIG, 0, 0, 0);
-    let mut turns: u32 = 0;
-    while turns < 256 {
-        let t = turn(o, d, data, buffer, log, replies);
-        o = t.op;
-        d = t.device;
-        turns += 1;
+    let mut at: usize = 0;
+    while at < made {
+        d = met(d, access_log::entry_at(log, at));
+        at += 1;
     }
-    o.replies
+    d.reply
 }
 
-// One step. The reply is kept at the place of the next one that is used.
-fn turn(
-    op: Op,
-    device: Device,
-    data: &[u8],
-    buffer: &mut [u8],
-    log: &mut [u32],
-    replies: &mut [u32],
-) -> After {
-    let device = accessed(device, qspi_operation::due(op, data));
-    keep(replies, op.replies, device.reply);
-    let stepped = qspi_operation::step(op, data, buffer, log, Reply::Word(device.reply));
-    let op = stepped.op;
-    After { op, device }
-}
-
-fn keep(replies: &mut [u32], at: usize, word: u32) {
-    if at < replies.len() {
-        replies[at] = word;
+fn met(d: Device, entry: Entry) -> Device {
+    match entry {
+        Entry::Access(access) => accessed(d, access),
+        Entry::End => d,
+        Entry::BadLog(_) => d,
     }
 }
 
-fn accessed(device: Device, due: Asked) -> Device {
-    match due {
-        Asked::Read(offset) => read(device, offset),
-        Asked::Write(offset, value) => write(device, offset, value),
-        Asked::Nothing => device,
-        Asked::LentLengthChanged => device,
+fn accessed(d: Device, access: Access) -> Device {
+    match access {
+        Access::Read(offset, _) => read(d, offset),
+        Access::Write(offset, value) => write(d, offset, value),
     }
 }
 

@@ -1,6 +1,5 @@
 // The memory that a call is lent: what it holds beforehand, and how far it is no longer so.
 ghost use Prim.Native.Nat.{_≤_};
-use qspi_operation::Op;
 
 // Words of log and bytes of buffer, enough for every case.
 pub const LOG: usize = 512;
@@ -18,26 +17,19 @@ pub fn least(a: usize, b: usize) -> usize
     if a <= b { a } else { b }
 }
 
-// How much of a buffer is lent: what the call was started with, or all where it has ended at its start.
-pub fn lent(op: Op, whole: usize) -> usize
-    ensures within { λ r. ⌜ r ≤ whole ⌝ }
-{
-    let status = op.status;
-    let job = op.job;
-    let lent = job.lent;
-    if qspi_operation::is_going(status) {
-        least(lent.buffer, whole)
-    } else {
-        whole
-    }
-}
-
 // As many words from the front as asked for, or all.
 pub fn front(all: &[u32], len: usize) -> &[u32] {
     if len <= all.len() { &all[0..len] } else { all }
 }
 
-pub fn fill(data: &mut [u8]) {
+// What is lent to be programmed: DE AD BE EF over and over.
+pub fn data() -> [u8; 256] {
+    let mut data = [0u8; 256];
+    fill(&mut data);
+    data
+}
+
+fn fill(data: &mut [u8]) {
     let mut i = 0;
     while i < data.len() {
         data[i] = programmed(i);

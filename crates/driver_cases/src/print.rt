@@ -1,91 +1,83 @@
 // The lines of the cases: hex is upper case as in document 01, and an answer has its number and name there.
+use crate::call;
 use access_log::Entry;
-use libc::STDOUT_FILENO;
-use qspi_script::Status;
 use zynq7000::qspi::Access;
-use zynq7000_hal::qspi::ClockCalculationError;
 
 // How many of the words that a register got are printed.
 const SHOWN: usize = 5;
 
-pub fn text(bytes: &[u8]) {
-    io::write_all(STDOUT_FILENO, bytes);
+// The labels of numbers, by place.
+const LABELS: [u8; 181] = *b"\
+    clocks: I/O reference |, reference target |, cpu_1x |interface target |loopback target |\
+    : clock divisor |, quotient |, baud rate divisor |, programmed |; used log words |, replies |\
+";
+
+pub const IO_REFERENCE: usize = 0;
+
+pub const REFERENCE_TARGET: usize = 1;
+
+pub const CPU_1X: usize = 2;
+
+pub const INTERFACE_TARGET: usize = 3;
+
+pub const LOOPBACK_TARGET: usize = 4;
+
+pub const CLOCK_DIVISOR: usize = 5;
+
+pub const QUOTIENT: usize = 6;
+
+pub const BAUD_RATE_DIVISOR: usize = 7;
+
+pub const PROGRAMMED: usize = 8;
+
+pub const USED: usize = 9;
+
+pub const REPLIES: usize = 10;
+
+// The titles by call: what stands before the length, or before the address of a call without one.
+const TITLES: [u8; 95] = *b"\
+    program |write_pages of |read of |erase |empty read at |io mode, one flash|io mode, dual flash|\
+";
+
+// What stands between the length and the address.
+const UNITS: [u8; 47] = *b" bytes of DE AD BE EF at | bytes at | byte at |";
+
+// Of the log and the buffer.
+const UNTOUCHED: [u8; 35] = *b"; log untouched|, buffer untouched|";
+
+const CHANGED: [u8; 55] = *b"; log changed up to word |, buffer changed up to byte |";
+
+pub fn labelled(label: usize, n: usize) {
+    printing::entry(&LABELS, label);
+    printing::decimal(b"", n);
 }
 
-pub fn decimal(name: &[u8], n: usize) {
-    text(name);
-    io::print_decimal(STDOUT_FILENO, n as u64);
-}
-
-// The last digits of a word, at most eight.
-pub fn hex(word: u32, digits: usize) {
-    let eight = [
-        digit(word / 0x1000_0000),
-        digit(word / 0x100_0000),
-        digit(word / 0x10_0000),
-        digit(word / 0x1_0000),
-        digit(word / 0x1000),
-        digit(word / 0x100),
-        digit(word / 0x10),
-        digit(word),
-    ];
-    if digits <= 8 {
-        let from = 8 - digits;
-        text(&eight[from..]);
+pub fn title(call: u32, addr: u32, length: usize) {
+    printing::entry(&TITLES, call as usize);
+    if call < call::ERASE {
+        printing::decimal(b"", length);
+        printing::entry(&UNITS, call as usize);
+    }
+    if call < call::IO_MODE_ONE {
+        printing::hex(b"", addr, 6);
     }
 }
 
-fn digit(n: u32) -> u8 {
-    let d = (n % 16) as u8;
-    if d < 10 { b'0' + d } else { b'A' + (d - 10) }
-}
-
-pub fn title(name: &[u8], length: usize, unit: &[u8], addr: u32) {
-    decimal(name, length);
-    text(unit);
-    hex(addr, 6);
-}
-
-pub fn answer(status: Status) {
-    decimal(b": ", status.number() as usize);
-    match status {
-        Status::Going => text(b" Going"),
-        Status::Done => text(b" Done"),
-        Status::OutOfRange => text(b" OutOfRange"),
-        Status::Alignment => text(b" Alignment"),
-        Status::DataTooLarge => text(b" DataTooLarge"),
-        Status::NotAligned => text(b" NotAligned"),
-        Status::CrossesPageBoundary => text(b" CrossesPageBoundary"),
-        Status::AddressSpan => text(b" AddressSpan"),
-        Status::FieldTooWide => text(b" FieldTooWide"),
-        Status::EraseErrorBitSet => text(b" EraseErrorBitSet"),
-        Status::ProgrammingErrorBitSet => text(b" ProgrammingErrorBitSet"),
-        Status::RepliesEnded => text(b" RepliesEnded"),
-        Status::LogFull => text(b" LogFull"),
-        Status::LentLengthChanged => text(b" LentLengthChanged"),
+pub fn answer(number: u32) {
+    if number == call::BUSY {
+        return printing::text(b": Busy");
     }
+    printing::text(b": ");
+    printing::answer(number);
 }
 
-pub fn refused(error: ClockCalculationError) {
-    decimal(b": ", error.number() as usize);
-    match error {
-        ClockCalculationError::RefClockSmallerThanCpu1xClock => {
-            text(b" RefClockSmallerThanCpu1xClock")
-        }
-        ClockCalculationError::RefDivOutOfRange => text(b" RefDivOutOfRange"),
-        ClockCalculationError::ZeroClock => text(b" ZeroClock"),
-        ClockCalculationError::TargetTooFast => text(b" TargetTooFast"),
-    }
-}
-
-// How far memory was changed.
-pub fn changed(name: &[u8], unit: &[u8], end: usize) {
-    text(name);
+// How far memory was changed: the log (0) or the buffer (1).
+pub fn changed(memory: usize, end: usize) {
     if end == 0 {
-        return text(b"untouched");
+        return printing::entry(&UNTOUCHED, memory);
     }
-    text(b"changed up to ");
-    decimal(unit, end);
+    printing::entry(&CHANGED, memory);
+    printing::decimal(b"", end);
 }
 
 // The words that a log says a register got, on a line of their own.
@@ -123,20 +115,19 @@ fn got(name: &[u8], register: u8, count: usize, access: Access) -> usize {
 
 fn word(name: &[u8], count: usize, value: u32) {
     if count == 0 {
-        text(name);
+        printing::text(name);
     }
     if count < SHOWN {
-        text(b" ");
-        hex(value, 8);
+        printing::hex(b" ", value, 8);
     }
 }
 
 fn over(count: usize) {
     if SHOWN < count {
-        decimal(b" and ", count - SHOWN);
-        text(b" more");
+        printing::decimal(b" and ", count - SHOWN);
+        printing::text(b" more");
     }
     if 0 < count {
-        text(b"\n");
+        printing::text(b"\n");
     }
 }

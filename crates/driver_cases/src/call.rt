@@ -1,0 +1,118 @@
+// The calls of the station cases by number, and a whole one through the driver.
+use crate::memory;
+use crate::memory::LOG;
+use qspi_calls::start;
+use qspi_driver::Driven;
+use qspi_driver::QspiSpansionS25Fl256SIoMode;
+use qspi_driver::state;
+use qspi_driver::state::Answer;
+use qspi_driver::state::State;
+use qspi_operation::Op;
+
+pub const PROGRAM: u32 = 0;
+
+pub const WRITE_PAGES: u32 = 1;
+
+pub const READ: u32 = 2;
+
+pub const ERASE: u32 = 3;
+
+pub const EMPTY_READ: u32 = 4;
+
+pub const IO_MODE_ONE: u32 = 5;
+
+pub const IO_MODE_DUAL: u32 = 6;
+
+// Stands for an answer that has no number.
+pub const BUSY: u32 = 256;
+
+// How a call ended.
+pub struct Ended {
+    pub answer: u32,
+    pub used: usize,
+    pub replies: usize,
+    pub programmed: usize,
+}
+
+fn started(call: u32, addr: u32, length: usize) -> Op {
+    match call {
+        0 => start::program(addr, length, LOG),
+        1 => start::write_pages(addr, length, LOG),
+        2 => start::read_page_read(addr, length, LOG),
+        3 => start::erase_sector(addr, LOG),
+        4 => start::read_page_read(addr, length, LOG),
+        _ => start::enable_io_mode(call == IO_MODE_DUAL, LOG),
+    }
+}
+
+// A driver at rest, or one whose call has not ended.
+fn driver(busy: bool) -> QspiSpansionS25Fl256SIoMode {
+    if busy {
+        let state = State {
+            op: start::write_enable(LOG),
+        };
+        return QspiSpansionS25Fl256SIoMode { state };
+    }
+    QspiSpansionS25Fl256SIoMode::idle()
+}
+
+// A call that is lent data and a buffer of its length, or an empty one of either.
+pub fn run(
+    busy: bool,
+    call: u32,
+    addr: u32,
+    length: usize,
+    buffer: &mut [u8],
+    log: &mut [u32],
+    replies: &[u32],
+) -> Ended {
+    let data = memory::data();
+    let len = memory::least(read_length(call, length), buffer.len());
+    let to = memory::least(data_length(call, length), data.len());
+    drive(
+        busy,
+        started(call, addr, length),
+        &data[0..to],
+        &mut buffer[0..len],
+        log,
+        replies,
+    )
+}
+
+fn drive(
+    busy: bool,
+    op: Op,
+    data: &[u8],
+    buffer: &mut [u8],
+    log: &mut [u32],
+    replies: &[u32],
+) -> Ended {
+    end_of(qspi_driver::drive(driver(busy), op, data, buffer, log, replies))
+}
+
+fn read_length(call: u32, length: usize) -> usize {
+    if call == READ { length } else { 0 }
+}
+
+fn data_length(call: u32, length: usize) -> usize {
+    if call < READ { length } else { 0 }
+}
+
+fn end_of(driven: Driven) -> Ended {
+    let driver = driven.driver;
+    let answer = driven.answer;
+    let progress = state::answer_so_far(driver.state);
+    Ended {
+        answer: number(answer),
+        used: progress.used,
+        replies: progress.replies,
+        programmed: progress.programmed,
+    }
+}
+
+fn number(answer: Answer) -> u32 {
+    match answer {
+        Answer::Given(status) => status.number(),
+        Answer::Busy => BUSY,
+    }
+}
