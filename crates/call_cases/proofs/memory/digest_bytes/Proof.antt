@@ -1,10 +1,10 @@
--- `call_cases::digest_bytes` is safe and ends: it counts up to the length. Assumes nothing.
+-- `call_cases::memory::digest_bytes` is safe and ends: it counts up to the length. Assumes nothing.
 use Prim.Native.Nat.{_-_, _≤_}
 use native.Mathlib.Omega.{arith}
 use lib.ListN.{length}
 use borrow.Author.Needs.{needs}
-use Rattle.call_cases.proofs.digest_bytes.Statement.{statement}
-use Rattle.call_cases.proofs.digest_bytes.Tie as tie
+use Rattle.call_cases.proofs.memory.digest_bytes.Statement.{statement}
+use Rattle.call_cases.proofs.memory.digest_bytes.Tie as tie
 
 abbrev Inv-loop : tie.InvT-loop
 Inv-loop bytes h₀ i₀ h i = i ≤ length bytes

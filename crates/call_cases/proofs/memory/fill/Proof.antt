@@ -1,11 +1,11 @@
--- `call_cases::fill` is safe and ends: it counts up to the length, which the writes keep. Assumes nothing.
+-- `call_cases::memory::fill` is safe and ends: it counts up to the length, which the writes keep. Assumes nothing.
 use Prim.Native.Nat.{_-_}
 use native.Mathlib.Omega.{arith}
 use lib.ListN.{length}
 use borrow.Author.Needs.{needs}
 use mathlib.Core.Path.{_≡_}
-use Rattle.call_cases.proofs.fill.Statement.{statement}
-use Rattle.call_cases.proofs.fill.Tie as tie
+use Rattle.call_cases.proofs.memory.fill.Statement.{statement}
+use Rattle.call_cases.proofs.memory.fill.Tie as tie
 
 abbrev Inv-loop : tie.InvT-loop
 Inv-loop data₀ i₀ «data» i = length «data» ≡ length data₀

@@ -1,10 +1,10 @@
--- `call_cases::digest` is safe and ends: it counts up to the length. Assumes nothing.
+-- `call_cases::memory::digest` is safe and ends: it counts up to the length. Assumes nothing.
 use Prim.Native.Nat.{_-_, _≤_}
 use native.Mathlib.Omega.{arith}
 use lib.ListN.{length}
 use borrow.Author.Needs.{needs}
-use Rattle.call_cases.proofs.digest.Statement.{statement}
-use Rattle.call_cases.proofs.digest.Tie as tie
+use Rattle.call_cases.proofs.memory.digest.Statement.{statement}
+use Rattle.call_cases.proofs.memory.digest.Tie as tie
 
 abbrev Inv-loop : tie.InvT-loop
 Inv-loop log h₀ i₀ h i = i ≤ length log
