@@ -66,7 +66,8 @@ fn case(number: usize, rest: &[u8]) -> bool {
     if !record::is_case(trial, printed) {
         return false;
     }
-    show(trial, memory::seed(number), printed);
+    let seed = memory::mix((number % 0x1_0000_0000) as u32, 1);
+    show(trial, seed, printed);
     true
 }
 
@@ -80,7 +81,7 @@ fn show(trial: Trial, seed: u32, printed: usize) {
     let end = served(
         trial,
         seed,
-        &data[0..to],
+        &data[..to],
         &mut buffer,
         &mut log,
         &mut replies,
@@ -105,7 +106,7 @@ fn served(
     replies: &mut [u32],
 ) -> Ended {
     let len = memory::lent(call::PROGRAM < trial.call, trial.b, buffer.len());
-    serve(trial, seed, data, &mut buffer[0..len], log, replies)
+    serve(trial, seed, data, &mut buffer[..len], log, replies)
 }
 
 // Steps a call to its end, for which the turns suffice: each step takes two words of log.
@@ -175,7 +176,7 @@ fn run(trial: Trial, words: usize, room: usize, replies: &[u32]) -> u32 {
     let mut buffer = [memory::UNTOUCHED_BYTE; 512];
     let mut log = [memory::UNTOUCHED; LOG];
     let to = memory::lent(trial.call == call::PROGRAM, trial.b, 512);
-    let end = ran_into(trial, room, &data[0..to], &mut buffer, &mut log, replies);
+    let end = ran_into(trial, room, &data[..to], &mut buffer, &mut log, replies);
     memory::summary(end, memory::front(&log, words), &buffer)
 }
 
@@ -190,13 +191,7 @@ fn ran_into(
 ) -> Ended {
     let len = memory::lent(call::PROGRAM < trial.call, trial.b, buffer.len());
     let within = memory::least(room, log.len());
-    ran(
-        trial,
-        data,
-        &mut buffer[0..len],
-        &mut log[0..within],
-        replies,
-    )
+    ran(trial, data, &mut buffer[..len], &mut log[..within], replies)
 }
 
 fn ran(trial: Trial, data: &[u8], buffer: &mut [u8], log: &mut [u32], replies: &[u32]) -> Ended {
@@ -205,14 +200,21 @@ fn ran(trial: Trial, data: &[u8], buffer: &mut [u8], log: &mut [u32], replies: &
 }
 
 fn all_cuts(trial: Trial, end: Ended, replies: &[u32]) {
-    cut_line(trial, end.answer, 0, points(end.replies), replies);
-    cut_line(trial, end.answer, 1, points(end.used), replies);
-    cut_line(trial, end.answer, 2, 512, replies);
+    let mut kind = 0;
+    while kind < 3 {
+        let points = points(kind, end.replies, end.used);
+        cut_line(trial, end.answer, kind, points, replies);
+        kind += 1;
+    }
 }
 
-// From none to all; the memory here never holds more.
-fn points(all: usize) -> usize {
-    if all < 2048 { all + 1 } else { 2048 }
+// From none to all.
+fn points(kind: usize, replies: usize, used: usize) -> usize {
+    match kind {
+        0 => std::num::wrapping_add_usize(replies, 1),
+        1 => std::num::wrapping_add_usize(used, 1),
+        _ => 512,
+    }
 }
 
 fn cut_line(trial: Trial, answer: usize, kind: usize, points: usize, replies: &[u32]) {

@@ -79,11 +79,6 @@ pub fn mix(h: u32, word: u32) -> u32 {
     ((h as u64 * 65599 + word as u64) % 0x1_0000_0000) as u32
 }
 
-// The seed of a case.
-pub fn seed(number: usize) -> u32 {
-    mix((number % 0x1_0000_0000) as u32, 1)
-}
-
 fn mix_count(h: u32, n: usize) -> u32 {
     mix(h, (n % 0x1_0000_0000) as u32)
 }

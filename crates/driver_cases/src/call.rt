@@ -72,8 +72,8 @@ pub fn run(
     drive(
         busy,
         started(call, addr, length),
-        &data[0..to],
-        &mut buffer[0..len],
+        &data[..to],
+        &mut buffer[..len],
         log,
         replies,
     )
