@@ -3,7 +3,7 @@
 //
 // Standard input has the cases, a line of 21 bytes each, `CC AAAAAAAA BBBB S P`:
 //
-//   CC        the call, by its place in `call`
+//   CC        the call, by its number in `call`
 //   AAAAAAAA  its first input, in hex: an address, a word or a byte
 //   BBBB      its second input, up to 512: a length, or a number by call
 //   S         the style of the replies, of `source`
@@ -208,7 +208,7 @@ fn all_cuts(trial: Trial, end: Ended, replies: &[u32]) {
     }
 }
 
-// From none to all.
+// How many cuts: from none to all of the replies, or of the words of log; or those of few of both.
 fn points(kind: usize, replies: usize, used: usize) -> usize {
     match kind {
         0 => std::num::wrapping_add_usize(replies, 1),

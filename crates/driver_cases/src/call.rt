@@ -56,7 +56,7 @@ fn driver(busy: bool) -> QspiSpansionS25Fl256SIoMode {
     QspiSpansionS25Fl256SIoMode::idle()
 }
 
-// A call that is lent data and a buffer of its length, or an empty one of either.
+// A call that is lent the data or the buffer of its length, and an empty one of the other.
 pub fn run(
     busy: bool,
     call: u32,
