@@ -1,5 +1,6 @@
 // Prints the register map and the words that need no operation: offsets, fields and commands, all 24
-// presets, the linear words of I/O mode, and the words of `initialize`.
+// presets, the linear words of I/O mode, and the words of `initialize`; then what the flash chip's functions
+// answer (`chip`).
 use libc::STDOUT_FILENO;
 use zedboard_bsp::qspi_spansion::ConfigRegister1;
 use zedboard_bsp::qspi_spansion::QSPI_DEV_COMBINATION_REV_F;
@@ -23,7 +24,14 @@ use zynq7000_hal::qspi::LoopbackWrite;
 use zynq7000_hal::qspi::QspiDeviceCombination;
 use zynq7000_hal::qspi::QspiVendor;
 
+mod chip;
+
 fn main() {
+    registers();
+    chip::answers();
+}
+
+fn registers() {
     let mut i: u32 = 0;
     while i < 102 {
         case(i);

@@ -64,16 +64,24 @@ pub const NOT_TAKEN: usize = 17;
 
 pub const OUTSIDE: usize = 18;
 
+fn name(item: usize) {
+    if item < items::UNKNOWN {
+        entry(&items::NAMES, item);
+        text(b": ");
+    }
+}
+
+fn words(wrong: usize) {
+    entry(&WORDS, wrong);
+}
+
 // The line that was read last is at fault.
 pub fn print(wrong: usize, said: &[usize]) {
     let item = items::of(said, items::LAST_ITEM);
     decimal(b"line ", items::of(said, items::LAST_LINE));
     text(b": ");
-    if item < items::UNKNOWN {
-        entry(&items::NAMES, item);
-        text(b": ");
-    }
-    entry(&WORDS, wrong);
+    name(item);
+    words(wrong);
     if wrong == TOO_LARGE {
         decimal(b"", items::most(item));
     }

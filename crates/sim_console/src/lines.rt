@@ -49,6 +49,16 @@ fn one_of(place: usize, entries: usize, wrong: usize) -> Value {
     }
 }
 
+fn call_named(word: &[u8]) -> Value {
+    let place = words::place(&calls::NAMES, word);
+    one_of(place, calls::CALLS, fault::UNKNOWN_CALL)
+}
+
+fn yes_or_no(word: &[u8]) -> Value {
+    let place = words::place(b"no|yes|", word);
+    one_of(place, 2, fault::NEITHER_YES_NOR_NO)
+}
+
 fn cut_point(word: &[u8]) -> Value {
     if words::same(word, b"all") {
         return Value::Is(items::EVERY);
@@ -58,12 +68,10 @@ fn cut_point(word: &[u8]) -> Value {
 
 fn value_in(item: usize, word: &[u8]) -> Value {
     if item == items::CALL {
-        let place = words::place(&calls::NAMES, word);
-        return one_of(place, calls::CALLS, fault::UNKNOWN_CALL);
+        return call_named(word);
     }
     if item == items::DUMMY {
-        let place = words::place(b"no|yes|", word);
-        return one_of(place, 2, fault::NEITHER_YES_NOR_NO);
+        return yes_or_no(word);
     }
     if item == items::ADDRESS {
         return address(word);

@@ -358,10 +358,7 @@ pub fn whole(
     changes(before, array, request::base_of(request), shown.doubt);
 }
 
-pub fn cut_line(request: &[usize], ended: Ended, log: &[u32], before: &[u8], array: &[u8]) {
-    let call = items::of(request, items::CALL);
-    let shown = seen(request, log, ended.used, ended.erasing);
-    decimal(b"", ended.used / 2);
+fn chunks_in_line(call: usize, shown: Shown) {
     if calls::programs(call) {
         decimal(b" finished ", shown.finished);
         decimal(b" bytes ", shown.bytes);
@@ -369,6 +366,13 @@ pub fn cut_line(request: &[usize], ended: Ended, log: &[u32], before: &[u8], arr
     if works(call) {
         spot(b" doubt ", b" doubt -", shown.doubt);
     }
+}
+
+pub fn cut_line(request: &[usize], ended: Ended, log: &[u32], before: &[u8], array: &[u8]) {
+    let call = items::of(request, items::CALL);
+    let shown = seen(request, log, ended.used, ended.erasing);
+    decimal(b"", ended.used / 2);
+    chunks_in_line(call, shown);
     let base = request::base_of(request);
     decimal(b" pages ", pages(before, array, base, shown.doubt, false));
     text(b"\n");

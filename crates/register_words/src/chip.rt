@@ -1,4 +1,4 @@
-// Prints what the flash chip's leaf functions answer: every byte as an id's code and as a register,
+// What the flash chip's leaf functions answer: every byte as an id's code and as a register,
 // the words of commands, and an id from its replies.
 use libc::STDOUT_FILENO;
 use zedboard_bsp::qspi_spansion::RegisterId;
@@ -13,7 +13,7 @@ use zedboard_bsp::qspi_spansion::device_id::SectorArchictectureCode;
 use zedboard_bsp::qspi_spansion::registers;
 use zedboard_bsp::qspi_spansion::words;
 
-fn main() {
+pub fn answers() {
     let mut i: u32 = 0;
     while i < 256 {
         codes(i as u8);

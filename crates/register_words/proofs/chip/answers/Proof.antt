@@ -1,9 +1,9 @@
--- `chip_words::main` is safe and ends: the byte's number rises to 256. Assumes nothing.
+-- `register_words::chip::answers` is safe and ends: the byte's number rises to 256. Assumes nothing.
 use Prim.Native.Nat.{_-_}
 use native.Mathlib.Omega.{arith}
 use borrow.Author.Needs.{needs}
-use Rattle.chip_words.proofs.main.Statement.{statement}
-use Rattle.chip_words.proofs.main.Tie as tie
+use Rattle.register_words.proofs.chip.answers.Statement.{statement}
+use Rattle.register_words.proofs.chip.answers.Tie as tie
 
 abbrev Inv-loop : tie.InvT-loop
 Inv-loop i₀ i = Unit {0}
@@ -44,8 +44,8 @@ id-requires c κs = tt
 returns : tie.Need-returns Inv-loop μ-loop
 returns c = tt
 
-pub main-spec : {M : Type 1} → statement M
-main-spec =
+pub answers-spec : {M : Type 1} → statement M
+answers-spec =
     tie.close
     (tie.spec
     Inv-loop

@@ -1,8 +1,8 @@
--- `register_words::main` is safe and ends: the case's number rises to 102. Assumes nothing.
+-- `register_words::registers` is safe and ends: the case's number rises to 102. Assumes nothing.
 use Prim.Native.Nat.{_-_}
 use native.Mathlib.Omega.{arith}
-use Rattle.register_words.proofs.main.Statement.{statement}
-use Rattle.register_words.proofs.main.Tie as tie
+use Rattle.register_words.proofs.registers.Statement.{statement}
+use Rattle.register_words.proofs.registers.Tie as tie
 
 abbrev Inv-loop : tie.InvT-loop
 Inv-loop i₀ i = Unit {0}
@@ -28,5 +28,5 @@ loop-again c = tt
 returns : tie.Need-returns Inv-loop μ-loop
 returns c = tt
 
-pub main-spec : {M : Type 1} → statement M
-main-spec = tie.close (tie.spec Inv-loop μ-loop loop-holds case-requires add-i loop-less loop-again returns)
+pub registers-spec : {M : Type 1} → statement M
+registers-spec = tie.close (tie.spec Inv-loop μ-loop loop-holds case-requires add-i loop-less loop-again returns)
