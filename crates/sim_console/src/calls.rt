@@ -21,12 +21,6 @@ pub const NAMES: [u8; 196] = *b"\
     read_fast_read|\
 ";
 
-pub const READ_STATUS_REGISTER_1: usize = 4;
-
-pub const READ_CONFIGURATION_REGISTER: usize = 5;
-
-pub const READ_RDID_BASE: usize = 6;
-
 pub const READ_RDID_EXTENDED: usize = 7;
 
 pub const ERASE_SECTOR: usize = 8;

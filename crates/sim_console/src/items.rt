@@ -27,8 +27,6 @@ pub const HOLDS: usize = 10;
 
 pub const UNKNOWN: usize = 11;
 
-pub const ITEMS: usize = 11;
-
 // Bytes of data, or to be read.
 pub const MOST_BYTES: usize = 4096;
 

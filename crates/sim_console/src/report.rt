@@ -248,7 +248,8 @@ fn read_id(is_long: bool, older: u32, old: u32, last: u32) {
     text(b"\n");
 }
 
-// What a call that is done has read.
+// What a call that is done has read. Calls go by their places in the table: reads of registers, of ids, of
+// the array; any other has no buffer, and nothing is printed.
 fn value(request: &[usize], ended: Ended, buffer: &[u8]) {
     let call = items::of(request, items::CALL);
     if !ended.done {
