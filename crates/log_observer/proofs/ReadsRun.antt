@@ -19,7 +19,7 @@ use denote.Ref.{now}
 use Rattle.qspi_calls.specs.Machine.{Script, Result, called}
 use Rattle.zynq7000.proofs.AccessLaws.{length-encode}
 use Rattle.qspi_calls.proofs.Registers.{OnRegisters, runs-on-registers}
-use Rattle.qspi_runs.specs.Promise.{ranOf, loggedOf}
+use Rattle.qspi_calls.specs.Promise.{ranOf, loggedOf}
 use Rattle.power_cut.proofs.Offsets.{used-words}
 
 module _ {s : Script} (p : OnRegisters s) (room : ℕ) (replies log : List ℕ) where

@@ -11,7 +11,7 @@ use Rattle.zynq7000.specs.declared.qspi.Record.the-variants as record-of
 use Rattle.zynq7000.proofs.AccessLaws.{read-words}
 use Rattle.qspi_calls.specs.Machine.{Result}
 use Rattle.zynq7000.proofs.AccessLaws.{length-encode}
-use Rattle.qspi_runs.specs.Promise.{ranOf, loggedOf}
+use Rattle.qspi_calls.specs.Promise.{ranOf, loggedOf}
 
 pub used-words : (r : Result) (log : List ℕ) → take (ranOf r .used) (loggedOf r log) ≡ encode (r .log)
 used-words r log = take-at (encode (r .log)) (drop (2 * length (r .log)) log) (2 * length (r .log)) (length-encode (r .log))

@@ -14,9 +14,9 @@ use Rattle.qspi_calls.proofs.Short.{no-values}
 use Rattle.qspi_calls.proofs.WireOrder.{AllBytes}
 use Rattle.qspi_calls.proofs.Pages.{write-pages}
 use Rattle.qspi_calls.proofs.Registers.{Call, run-loggable}
-use Rattle.qspi_runs.specs.declared.Ran.{Ran}
-use Rattle.qspi_runs.specs.Promise.{ranOf, loggedOf, handed, Ended}
-use Rattle.qspi_runs.proofs.Promised.{kept-by}
+use Rattle.qspi_calls.specs.declared.run.Ran.{Ran}
+use Rattle.qspi_calls.specs.Promise.{ranOf, loggedOf, handed, Ended}
+use Rattle.qspi_calls.proofs.Promised.{kept-by}
 use Rattle.power_cut.specs.Promise.{Saved}
 use Rattle.power_cut.proofs.Theorem.{power-cut}
 use Rattle.power_cut.proofs.Offsets.{used-words}

@@ -5,10 +5,11 @@ ghost use Prim.Native.Nat.{_/_};
 ghost use lib.ListN.{length};
 ghost use Rattle.qspi_calls.specs.Machine.{called, countIn};
 ghost use Rattle.qspi_calls.specs.Calls as call;
-ghost use Rattle.qspi_runs.specs.Promise.{ranOf, loggedOf};
+ghost use Rattle.qspi_calls.specs.Promise.{ranOf, loggedOf};
 ghost use Rattle.power_cut.specs.Promise.{Saved};
+use qspi_calls::run;
+use qspi_calls::run::Ran;
 use qspi_calls::start;
-use qspi_runs::Ran;
 
 // How it ended, the used counts, and the bytes of the chunks that ended clean.
 pub struct PagesRan {
@@ -26,6 +27,6 @@ pub fn write_pages(addr: u32, data: &[u8], replies: &[u32], log: &mut [u32]) -> 
     let mut buffer = [0u8; 0];
     let s = qspi_operation::run(op, data, &mut buffer, log, replies);
     let programmed = qspi_operation::programmed(s.op);
-    let ran = qspi_runs::finish(s);
+    let ran = run::finish(s);
     PagesRan { ran, programmed }
 }

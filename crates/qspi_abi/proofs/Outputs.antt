@@ -24,14 +24,22 @@ use Rattle.zedboard_bsp.specs.declared.qspi_spansion.device_id.BaseDeviceId.{Ba
 use Rattle.zedboard_bsp.specs.declared.qspi_spansion.device_id.ExtendedDeviceId.{ExtendedDeviceId}
 use Rattle.qspi_script.specs.Stages.{numberOf}
 use Rattle.qspi_script.specs.declared.Status.the-variants.{FieldTooWide}
-use Rattle.qspi_calls.specs.Machine.{Script, runs, readsOf, called}
+use Rattle.qspi_calls.specs.Machine.{Script, Result, runs, readsOf, called}
+use Rattle.qspi_calls.proofs.OneTransfer.{register-value}
+use Rattle.qspi_calls.proofs.Promised.{ran-of, register-of}
+use Rattle.qspi_calls.proofs.Whole.{Whole}
+use Rattle.qspi_operation.specs.Run.{Run}
+use Rattle.qspi_operation.specs.Run as by-counters
+use Rattle.qspi_operation.specs.declared.Stepped.{Stepped}
+use Rattle.qspi_script.specs.declared.Status.{Status}
+use Rattle.qspi_transfer.specs.declared.Wire.{Wire}
 use Rattle.qspi_calls.specs.Calls as call
 use Rattle.qspi_calls.specs.declared.start.Latency.{Latency}
-use Rattle.qspi_runs.specs.Promise.{ranOf, valueOf, loggedOf}
-use Rattle.qspi_runs.specs.declared.Ran.{Ran}
+use Rattle.qspi_calls.specs.Promise.{ranOf, handed, ended, Ended, valueOf, loggedOf, bufferedOf}
+use Rattle.qspi_calls.specs.declared.run.Ran.{Ran}
 use Rattle.power_cut.specs.declared.PagesRan.{PagesRan}
 use Rattle.qspi_abi.specs.Codes as codes
-use Rattle.qspi_abi.specs.Numbers.{numbered, ran, withValue, valued, pages, withId, withLongId, clockConfig}
+use Rattle.qspi_abi.specs.Numbers.{numbered, ran, withValue, withRegister, valued, pages, withId, withLongId, clockConfig}
 use Rattle.qspi_abi.specs.declared.QspiRan.{QspiRan}
 use Rattle.qspi_abi.specs.declared.QspiPagesRan.{QspiPagesRan}
 use Rattle.qspi_abi.specs.declared.QspiValueRan.{QspiValueRan}
@@ -49,32 +57,50 @@ plain e₁ e₂ = e₁ ∙ ap numbered e₂
 pub value : {r s : Ran} {v w : ℕ} {q : QspiValueRan} → q ≡ withValue r v → r ≡ s → v ≡ w → q ≡ withValue s w
 value {s = s} {v = v} e₁ e₂ e₃ = e₁ ∙ ap (λ (z : Ran). withValue z v) e₂ ∙ ap (withValue s) e₃
 
-pub saved-pages : {p : PagesRan} {s : Ran} {n : ℕ} {q : QspiPagesRan} → q ≡ pages p → p .ran ≡ s → p .programmed ≡ n → q ≡ pages (record { ran = s; programmed = n })
-saved-pages {p} {s} e₁ e₂ e₃ =
-    e₁ ∙ ap (λ (z : Ran). pages (record { ran = z; programmed = p .programmed })) e₂ ∙ ap (λ (z : ℕ). pages (record { ran = s; programmed = z })) e₃
+-- a run of the code by counters, in its numbers, is what the script says where the script is met
+module _ {Values : Status → Wire → List ℕ} {e : Run} {log buffer log₁ : List ℕ} {r : Result} where
+  pub commanded : {q : QspiRan} → Whole Values e log buffer r → (q ≡ numbered (ended e)) × (log₁ ≡ e .log) → (q ≡ ran r) × (log₁ ≡ loggedOf r log)
+  commanded w p = (plain (p .0) (ran-of w), p .1 ∙ w .logged)
+
+  pub buffered : {q : QspiRan} {buffer₁ : List ℕ} → Whole Values e log buffer r → (q ≡ numbered (ended e)) × ((log₁ ≡ e .log) × (buffer₁ ≡ e .buffer))
+      → (q ≡ ran r) × ((log₁ ≡ loggedOf r log) × (buffer₁ ≡ bufferedOf r buffer))
+  buffered w p = (plain (p .0) (ran-of w), (p .1 .0 ∙ w .logged, p .1 .1 ∙ w .stored))
+
+pub registered : {e : Run} {log buffer log₁ : List ℕ} {r : Result} {q : QspiValueRan} → Whole register-value e log buffer r → (q ≡ withRegister e) × (log₁ ≡ e .log) → (q ≡ valued r) × (log₁ ≡ loggedOf r log)
+registered {e} {r = r} w p = (value (p .0) (ran-of w) (register-of (e .answer) (e .op .wire) r (w .values)), p .1 ∙ w .logged)
 
 -- `new` with the latency that was asked for
-pub new : (quad clear : Bool) (log₀ log₁ rs : List ℕ) {l m : Latency} {r : Ran} {q : QspiRan} → l ≡ m → q ≡ numbered r
-    → (r ≡ ranOf (called (call.newCall (record { «set_quad_bit_if_necessary» = quad; «latency_config» = l; «clear_write_protection» = clear })) (length log₀ / 2) rs))
+pub new : (quad clear : Bool) (log₀ log₁ rs : List ℕ) {l m : Latency} {q : QspiRan} → l ≡ m
+    → (q ≡ ran (called (call.newCall (record { «set_quad_bit_if_necessary» = quad; «latency_config» = l; «clear_write_protection» = clear })) (length log₀ / 2) rs))
     × (log₁ ≡ loggedOf (called (call.newCall (record { «set_quad_bit_if_necessary» = quad; «latency_config» = l; «clear_write_protection» = clear })) (length log₀ / 2) rs) log₀)
     → (q ≡ ran (called (call.newCall (record { «set_quad_bit_if_necessary» = quad; «latency_config» = m; «clear_write_protection» = clear })) (length log₀ / 2) rs))
     × (log₁ ≡ loggedOf (called (call.newCall (record { «set_quad_bit_if_necessary» = quad; «latency_config» = m; «clear_write_protection» = clear })) (length log₀ / 2) rs) log₀)
-new quad clear log₀ log₁ rs e e₁ e₂ = rw (← e) (e₁ ∙ ap numbered (e₂ .0), e₂ .1)
+new quad clear log₀ log₁ rs e p = rw (← e) p
+
+-- what the code hands back at the end of a run
+pub handed-of : {s : Stepped} {log₁ : List ℕ} {e : Run} → Ended s log₁ e → handed s ≡ ended e
+handed-of n = rw (n .answer, n .op)
+
+pub handed-with-buffer : {s : Stepped} {buffer₁ log₁ : List ℕ} {e : Run} → by-counters.Ran s buffer₁ log₁ e → handed s ≡ ended e
+handed-with-buffer n = rw (n .answer, n .op)
+
+pub saved-pages : {p : PagesRan} {s : Ran} {n : ℕ} {q : QspiPagesRan} → q ≡ pages p → p .ran ≡ s → p .programmed ≡ n → q ≡ pages (record { ran = s; programmed = n })
+saved-pages {p} {s} e₁ e₂ e₃ =
+    e₁ ∙ ap (λ (z : Ran). pages (record { ran = z; programmed = p .programmed })) e₂ ∙ ap (λ (z : ℕ). pages (record { ran = s; programmed = z })) e₃
 
 -- ---- `initialize`
 
 abbrev configOf : ℕ → ℕ → Bool → ℕ → ClockConfig
 configOf s d loopback b = record { «src_sel» = codes.sourceOf s; «ref_clk_div» = d; «baud_rate_config» = codes.baudRateOf loopback b }
 
-pub initialized : (s d : ℕ) (loopback : Bool) (b : ℕ) (phase polarity : Bool) (log₀ log₁ rs : List ℕ) {c : ClockConfig} {r : Ran} {v : ℕ} {q : QspiValueRan}
-    → not (ltb 3 s || ltb 7 b) ≡ true → c ≡ configOf s d loopback b → q ≡ withValue r v
-    → (r ≡ ranOf (called (call.initialize c phase polarity) (length log₀ / 2) rs)) × (v ≡ valueOf (called (call.initialize c phase polarity) (length log₀ / 2) rs))
-    → log₁ ≡ loggedOf (called (call.initialize c phase polarity) (length log₀ / 2) rs) log₀
+pub initialized : (s d : ℕ) (loopback : Bool) (b : ℕ) (phase polarity : Bool) (log₀ log₁ rs : List ℕ) {c : ClockConfig} {q : QspiValueRan}
+    → not (ltb 3 s || ltb 7 b) ≡ true → c ≡ configOf s d loopback b
+    → (q ≡ valued (called (call.initialize c phase polarity) (length log₀ / 2) rs)) × (log₁ ≡ loggedOf (called (call.initialize c phase polarity) (length log₀ / 2) rs) log₀)
     → (q ≡ valued (called (codes.initialize s d loopback b phase polarity) (length log₀ / 2) rs)) × (log₁ ≡ loggedOf (called (codes.initialize s d loopback b phase polarity) (length log₀ / 2) rs) log₀)
-initialized s d loopback b phase polarity log₀ log₁ rs {c} h e e₁ e₂ e₃ =
+initialized s d loopback b phase polarity log₀ log₁ rs {c} h e p =
     let f : call.initialize c phase polarity ≡ codes.initialize s d loopback b phase polarity = ap (λ (z : ClockConfig). call.initialize z phase polarity) e ∙ sym (fits (ltb 3 s || ltb 7 b) (call.refused FieldTooWide) (call.initialize (configOf s d loopback b) phase polarity) h) in (
-      value e₁ (e₂ .0) (e₂ .1) ∙ ap (λ (z : Script). valued (called z (length log₀ / 2) rs)) f,
-      e₃ ∙ ap (λ (z : Script). loggedOf (called z (length log₀ / 2) rs) log₀) f,
+      p .0 ∙ ap (λ (z : Script). valued (called z (length log₀ / 2) rs)) f,
+      p .1 ∙ ap (λ (z : Script). loggedOf (called z (length log₀ / 2) rs) log₀) f,
     )
 
 abbrev tooWide : QspiValueRan

@@ -4,10 +4,12 @@ use mathlib.Core.List.{List}
 use lib.ListN.{getD}
 use Rattle.zynq7000.specs.Number.{Answer}
 use Rattle.zedboard_bsp.specs.DeviceId.{replyBytes, longReplyBytes, codeAnswer, interfaceCodes, densityCodes, sectorCodes}
+use Rattle.zedboard_bsp.specs.Words.{topByte}
 use Rattle.qspi_script.specs.Stages.{numberOf}
+use Rattle.qspi_operation.specs.Run.{Run}
 use Rattle.qspi_calls.specs.Machine.{Result, countIn}
-use Rattle.qspi_runs.specs.Promise.{ranOf, valueOf, idOf}
-use Rattle.qspi_runs.specs.declared.Ran.{Ran}
+use Rattle.qspi_calls.specs.Promise.{ranOf, ended, keptOf, valueOf, idOf}
+use Rattle.qspi_calls.specs.declared.run.Ran.{Ran}
 use Rattle.power_cut.specs.declared.PagesRan.{PagesRan}
 use Rattle.qspi_abi.specs.declared.QspiRan.{QspiRan}
 use Rattle.qspi_abi.specs.declared.QspiPagesRan.{QspiPagesRan}
@@ -28,6 +30,10 @@ withValue r v = record { answer = numberOf (r .answer); value = v; used = r .use
 
 abbrev pub valued : Result → QspiValueRan
 valued r = withValue (ranOf r) (valueOf r)
+
+-- a register's byte after a run of the code by counters: the reply's top byte, 0 where the call is not done
+abbrev pub withRegister : Run → QspiValueRan
+withRegister e = withValue (ended e) (topByte (keptOf (e .answer) (e .op .wire .last)))
 
 abbrev pub pages : PagesRan → QspiPagesRan
 pages p = record { answer = numberOf (p .ran .answer); programmed = p .programmed; used = p .ran .used; replies = p .ran .replies }

@@ -2,31 +2,40 @@
 // out. `include/qspi.h` declares these functions and says what the numbers are. Each runs one call from
 // its start to its end over the replies and the log lent; any input gets an answer.
 ghost use mathlib.Core.Path.{_≡_};
-ghost use mathlib.Core.Bool.{true, false};
+ghost use mathlib.Core.Bool.{true, false, cond};
 ghost use Prim.Native.Nat.{_/_};
+ghost use lib.Dec.{ltb};
 ghost use lib.ListN.{length};
 ghost use mathlib.Core.List.{[]};
 ghost use Rattle.zynq7000_hal.specs.Clocks.{answerOf, calculateAnswer, loopbackAnswer};
 ghost use Rattle.zynq7000_hal.specs.declared.qspi.ClockCalculation.the-variants as calculation;
 ghost use Rattle.zynq7000.specs.Qspi.{linearWord};
+ghost use Rattle.zynq7000.specs.Slcr.{sourceCode, clockControlWord};
 ghost use Rattle.zynq7000_hal.specs.Presets.{preset as presetWords};
-ghost use Rattle.zedboard_bsp.specs.DeviceId.{baseBytes, extendedBytes};
+ghost use Rattle.zedboard_bsp.specs.DeviceId.{baseBytes, extendedBytes, replyBytes, longReplyBytes};
+ghost use Rattle.qspi_operation.specs.Run.{runOf};
 ghost use Rattle.qspi_calls.specs.Machine.{called};
 ghost use Rattle.qspi_calls.specs.Calls as call;
-ghost use Rattle.qspi_runs.specs.Promise.{loggedOf, bufferedOf};
+ghost use Rattle.qspi_calls.specs.Promise.{nothing, ended, keptOf, loggedOf, bufferedOf};
 ghost use Rattle.qspi_abi.specs.Codes as codes;
 ghost use Rattle.qspi_abi.specs.Numbers as numbers;
 ghost use Rattle.qspi_abi.specs.Saved.{SavedNumbers};
 use power_cut::PagesRan;
+use qspi_calls::run;
+use qspi_calls::run::Ran;
+use qspi_calls::start;
 use qspi_calls::start::Config;
-use qspi_runs::IdRan;
-use qspi_runs::LongIdRan;
-use qspi_runs::Ran;
+use qspi_operation::Op;
+use qspi_operation::Stepped;
+use zedboard_bsp::qspi_spansion::device_id::BaseDeviceId;
+use zedboard_bsp::qspi_spansion::device_id::ExtendedDeviceId;
+use zedboard_bsp::qspi_spansion::words;
 use zynq7000::qspi::InstructionCode;
 use zynq7000_hal::clocks::Clocks;
 use zynq7000_hal::qspi;
 use zynq7000_hal::qspi::ClockCalculation;
 use zynq7000_hal::qspi::ClockConfig;
+use zynq7000_hal::qspi::Initialization;
 use zynq7000_hal::qspi::QspiDeviceCombination;
 
 mod codes;
@@ -133,12 +142,64 @@ fn pages_out(pages: PagesRan) -> QspiPagesRan
     }
 }
 
-fn id_out(id_ran: IdRan) -> QspiIdRan
-    ensures numbers { λ r. ⌜ r ≡ numbers.withId («id_ran» .ran) (baseBytes («id_ran» .id)) ⌝ }
+// A call that is lent replies and a log, from its start to its end.
+fn command(op: Op, replies: &[u32], log: &mut [u32]) -> QspiRan
+    ensures ran { λ r. ⌜ r ≡ numbers.numbered (ended (runOf op nothing (now (replies .entry)) nothing (now (log .entry)))) ⌝ }
+    ensures logged { λ r. ⌜ now (log .exit) ≡ runOf op nothing (now (replies .entry)) nothing (now (log .entry)) .log ⌝ }
 {
-    let ran = id_ran.ran;
+    ran_out(run::finish(run::command(op, replies, log)))
+}
+
+// One that reads a register of the chip.
+fn register(op: Op, replies: &[u32], log: &mut [u32]) -> QspiValueRan
+    ensures ran { λ r. ⌜ r ≡ numbers.withRegister (runOf op nothing (now (replies .entry)) nothing (now (log .entry))) ⌝ }
+    ensures logged { λ r. ⌜ now (log .exit) ≡ runOf op nothing (now (replies .entry)) nothing (now (log .entry)) .log ⌝ }
+{
+    let s = run::command(op, replies, log);
+    let end = s.op;
+    let wire = end.wire;
+    let answer = s.answer;
+    let value = words::top_byte(run::kept(answer, wire.last));
+    value_out(run::finish(s), value as u32)
+}
+
+// One that is lent a buffer too.
+fn read(op: Op, buffer: &mut [u8], replies: &[u32], log: &mut [u32]) -> QspiRan
+    ensures ran { λ r. ⌜ r ≡ numbers.numbered (ended (runOf op nothing (now (replies .entry)) (now (buffer .entry)) (now (log .entry)))) ⌝ }
+    ensures logged { λ r. ⌜ now (log .exit) ≡ runOf op nothing (now (replies .entry)) (now (buffer .entry)) (now (log .entry)) .log ⌝ }
+    ensures stored { λ r. ⌜ now (buffer .exit) ≡ runOf op nothing (now (replies .entry)) (now (buffer .entry)) (now (log .entry)) .buffer ⌝ }
+{
+    let data = [0u8; 0];
+    ran_out(run::finish(qspi_operation::run(op, &data, buffer, log, replies)))
+}
+
+// The id that the replies carry, where the call is done.
+fn id_of(s: Stepped) -> BaseDeviceId
+    ensures id { λ r. ⌜ baseBytes r ≡ replyBytes (keptOf (s .answer) (s .op .wire .last)) ⌝ }
+{
+    let op = s.op;
+    let wire = op.wire;
+    let answer = s.answer;
+    BaseDeviceId::from_reply(run::kept(answer, wire.last))
+}
+
+fn long_id_of(s: Stepped) -> ExtendedDeviceId
+    ensures id { λ r. ⌜ extendedBytes r ≡ longReplyBytes (keptOf (s .answer) (s .op .wire .older)) (keptOf (s .answer) (s .op .wire .old)) (keptOf (s .answer) (s .op .wire .last)) ⌝ }
+{
+    let op = s.op;
+    let wire = op.wire;
+    let answer = s.answer;
+    ExtendedDeviceId::from_replies(
+        run::kept(answer, wire.older),
+        run::kept(answer, wire.old),
+        run::kept(answer, wire.last),
+    )
+}
+
+fn id_out(ran: Ran, id: BaseDeviceId) -> QspiIdRan
+    ensures numbers { λ r. ⌜ r ≡ numbers.withId ran (baseBytes id) ⌝ }
+{
     let answer = ran.answer;
-    let id = id_ran.id;
     QspiIdRan {
         answer: answer.number(),
         manufacturer_id: id.manufacturer_id() as u32,
@@ -150,12 +211,10 @@ fn id_out(id_ran: IdRan) -> QspiIdRan
     }
 }
 
-fn long_id_out(id_ran: LongIdRan) -> QspiLongIdRan
-    ensures numbers { λ r. ⌜ r ≡ numbers.withLongId («id_ran» .ran) (extendedBytes («id_ran» .id)) ⌝ }
+fn long_id_out(ran: Ran, long: ExtendedDeviceId) -> QspiLongIdRan
+    ensures numbers { λ r. ⌜ r ≡ numbers.withLongId ran (extendedBytes long) ⌝ }
 {
-    let ran = id_ran.ran;
     let answer = ran.answer;
-    let long = id_ran.id;
     let id = long.base_id();
     let model = long.model_number_raw();
     QspiLongIdRan {
@@ -304,6 +363,33 @@ pub extern "C" fn qspi_linear_mode_config(
     }
 }
 
+// The clock control word of `initialize`; 0 where it is refused.
+fn clock_word(clock_config: ClockConfig, phase: bool, polarity: bool) -> u32
+    ensures word { λ r. ⌜ r ≡ cond (ltb 63 («clock_config» .«ref_clk_div»)) 0 (clockControlWord («clock_config» .«ref_clk_div») (sourceCode («clock_config» .«src_sel»)) 1) ⌝ }
+{
+    match qspi::initialize_words(clock_config, phase, polarity) {
+        Initialization::Words(words) => words.lqspi_clk_ctrl,
+        Initialization::FieldTooWide => 0,
+    }
+}
+
+fn initialize(
+    clock_config: ClockConfig,
+    phase: bool,
+    polarity: bool,
+    replies: &[u32],
+    log: &mut [u32],
+) -> QspiValueRan
+    ensures ran { λ r. ⌜ r ≡ numbers.valued (called (call.initialize «clock_config» phase polarity) (length (now (log .entry)) / 2) (now (replies .entry))) ⌝ }
+    ensures logged { λ r. ⌜ now (log .exit) ≡ loggedOf (called (call.initialize «clock_config» phase polarity) (length (now (log .entry)) / 2) (now (replies .entry))) (now (log .entry)) ⌝ }
+{
+    let op = start::initialize(clock_config, phase, polarity, log.len());
+    let s = run::command(op, replies, log);
+    let answer = s.answer;
+    let word = run::kept(answer, clock_word(clock_config, phase, polarity));
+    value_out(run::finish(s), word)
+}
+
 #[no_mangle]
 pub extern "C" fn qspi_initialize(
     src_sel: u8,
@@ -320,8 +406,7 @@ pub extern "C" fn qspi_initialize(
 {
     if codes::fit(src_sel, baud_rate_div) {
         let config = codes::clock_config(src_sel, ref_clk_div, loopback, baud_rate_div);
-        let r = qspi_runs::initialize(config, phase, polarity, replies, log);
-        value_out(r.ran, r.lqspi_clk_ctrl)
+        initialize(config, phase, polarity, replies, log)
     } else {
         QspiValueRan {
             answer: 12,
@@ -349,7 +434,8 @@ pub extern "C" fn qspi_new(
         latency_config: codes::latency(set_latency, latency),
         clear_write_protection,
     };
-    ran_out(qspi_runs::new(config, replies, log))
+    let op = start::new(config, log.len());
+    command(op, replies, log)
 }
 
 #[no_mangle]
@@ -361,7 +447,8 @@ pub extern "C" fn qspi_enable_linear_addressing(
     ensures ran { λ r. ⌜ r ≡ numbers.ran (called (call.enableLinearAddressing config) (length (now (log .entry)) / 2) (now (replies .entry))) ⌝ }
     ensures logged { λ r. ⌜ now (log .exit) ≡ loggedOf (called (call.enableLinearAddressing config) (length (now (log .entry)) / 2) (now (replies .entry))) (now (log .entry)) ⌝ }
 {
-    ran_out(qspi_runs::enable_linear_addressing(config, replies, log))
+    let op = start::enable_linear_addressing(config, log.len());
+    command(op, replies, log)
 }
 
 #[no_mangle]
@@ -369,7 +456,8 @@ pub extern "C" fn qspi_enable_io_mode(dual_flash: bool, replies: &[u32], log: &m
     ensures ran { λ r. ⌜ r ≡ numbers.ran (called (call.enableIoMode «dual_flash») (length (now (log .entry)) / 2) (now (replies .entry))) ⌝ }
     ensures logged { λ r. ⌜ now (log .exit) ≡ loggedOf (called (call.enableIoMode «dual_flash») (length (now (log .entry)) / 2) (now (replies .entry))) (now (log .entry)) ⌝ }
 {
-    ran_out(qspi_runs::enable_io_mode(dual_flash, replies, log))
+    let op = start::enable_io_mode(dual_flash, log.len());
+    command(op, replies, log)
 }
 
 #[no_mangle]
@@ -377,7 +465,8 @@ pub extern "C" fn qspi_disable(replies: &[u32], log: &mut [u32]) -> QspiRan
     ensures ran { λ r. ⌜ r ≡ numbers.ran (called call.disable (length (now (log .entry)) / 2) (now (replies .entry))) ⌝ }
     ensures logged { λ r. ⌜ now (log .exit) ≡ loggedOf (called call.disable (length (now (log .entry)) / 2) (now (replies .entry))) (now (log .entry)) ⌝ }
 {
-    ran_out(qspi_runs::disable(replies, log))
+    let op = start::disable(log.len());
+    command(op, replies, log)
 }
 
 #[no_mangle]
@@ -389,7 +478,8 @@ pub extern "C" fn qspi_set_write_protection(
     ensures ran { λ r. ⌜ r ≡ numbers.ran (called (call.setWriteProtection protection) (length (now (log .entry)) / 2) (now (replies .entry))) ⌝ }
     ensures logged { λ r. ⌜ now (log .exit) ≡ loggedOf (called (call.setWriteProtection protection) (length (now (log .entry)) / 2) (now (replies .entry))) (now (log .entry)) ⌝ }
 {
-    ran_out(qspi_runs::set_write_protection(protection, replies, log))
+    let op = start::set_write_protection(protection, log.len());
+    command(op, replies, log)
 }
 
 #[no_mangle]
@@ -397,7 +487,8 @@ pub extern "C" fn qspi_write_enable(replies: &[u32], log: &mut [u32]) -> QspiRan
     ensures ran { λ r. ⌜ r ≡ numbers.ran (called call.writeEnable (length (now (log .entry)) / 2) (now (replies .entry))) ⌝ }
     ensures logged { λ r. ⌜ now (log .exit) ≡ loggedOf (called call.writeEnable (length (now (log .entry)) / 2) (now (replies .entry))) (now (log .entry)) ⌝ }
 {
-    ran_out(qspi_runs::write_enable(replies, log))
+    let op = start::write_enable(log.len());
+    command(op, replies, log)
 }
 
 #[no_mangle]
@@ -405,7 +496,8 @@ pub extern "C" fn qspi_write_disable(replies: &[u32], log: &mut [u32]) -> QspiRa
     ensures ran { λ r. ⌜ r ≡ numbers.ran (called call.writeDisable (length (now (log .entry)) / 2) (now (replies .entry))) ⌝ }
     ensures logged { λ r. ⌜ now (log .exit) ≡ loggedOf (called call.writeDisable (length (now (log .entry)) / 2) (now (replies .entry))) (now (log .entry)) ⌝ }
 {
-    ran_out(qspi_runs::write_disable(replies, log))
+    let op = start::write_disable(log.len());
+    command(op, replies, log)
 }
 
 #[no_mangle]
@@ -413,7 +505,8 @@ pub extern "C" fn qspi_clear_status(replies: &[u32], log: &mut [u32]) -> QspiRan
     ensures ran { λ r. ⌜ r ≡ numbers.ran (called call.clearStatus (length (now (log .entry)) / 2) (now (replies .entry))) ⌝ }
     ensures logged { λ r. ⌜ now (log .exit) ≡ loggedOf (called call.clearStatus (length (now (log .entry)) / 2) (now (replies .entry))) (now (log .entry)) ⌝ }
 {
-    ran_out(qspi_runs::clear_status(replies, log))
+    let op = start::clear_status(log.len());
+    command(op, replies, log)
 }
 
 #[no_mangle]
@@ -421,7 +514,8 @@ pub extern "C" fn qspi_write_status(sr: u8, replies: &[u32], log: &mut [u32]) ->
     ensures ran { λ r. ⌜ r ≡ numbers.ran (called (call.writeStatus sr) (length (now (log .entry)) / 2) (now (replies .entry))) ⌝ }
     ensures logged { λ r. ⌜ now (log .exit) ≡ loggedOf (called (call.writeStatus sr) (length (now (log .entry)) / 2) (now (replies .entry))) (now (log .entry)) ⌝ }
 {
-    ran_out(qspi_runs::write_status(sr, replies, log))
+    let op = start::write_status(sr, log.len());
+    command(op, replies, log)
 }
 
 #[no_mangle]
@@ -434,7 +528,8 @@ pub extern "C" fn qspi_write_status_and_config_register(
     ensures ran { λ r. ⌜ r ≡ numbers.ran (called (call.writeRegisters sr cr) (length (now (log .entry)) / 2) (now (replies .entry))) ⌝ }
     ensures logged { λ r. ⌜ now (log .exit) ≡ loggedOf (called (call.writeRegisters sr cr) (length (now (log .entry)) / 2) (now (replies .entry))) (now (log .entry)) ⌝ }
 {
-    ran_out(qspi_runs::write_status_and_config_register(sr, cr, replies, log))
+    let op = start::write_status_and_config_register(sr, cr, log.len());
+    command(op, replies, log)
 }
 
 #[no_mangle]
@@ -442,7 +537,8 @@ pub extern "C" fn qspi_erase_sector(addr: u32, replies: &[u32], log: &mut [u32])
     ensures ran { λ r. ⌜ r ≡ numbers.ran (called (call.eraseSector addr) (length (now (log .entry)) / 2) (now (replies .entry))) ⌝ }
     ensures logged { λ r. ⌜ now (log .exit) ≡ loggedOf (called (call.eraseSector addr) (length (now (log .entry)) / 2) (now (replies .entry))) (now (log .entry)) ⌝ }
 {
-    ran_out(qspi_runs::erase_sector(addr, replies, log))
+    let op = start::erase_sector(addr, log.len());
+    command(op, replies, log)
 }
 
 #[no_mangle]
@@ -450,7 +546,9 @@ pub extern "C" fn qspi_program(addr: u32, data: &[u8], replies: &[u32], log: &mu
     ensures ran { λ r. ⌜ r ≡ numbers.ran (called (call.program addr (now («data» .entry))) (length (now (log .entry)) / 2) (now (replies .entry))) ⌝ }
     ensures logged { λ r. ⌜ now (log .exit) ≡ loggedOf (called (call.program addr (now («data» .entry))) (length (now (log .entry)) / 2) (now (replies .entry))) (now (log .entry)) ⌝ }
 {
-    ran_out(qspi_runs::program(addr, data, replies, log))
+    let op = start::program(addr, data.len(), log.len());
+    let mut buffer = [0u8; 0];
+    ran_out(run::finish(qspi_operation::run(op, data, &mut buffer, log, replies)))
 }
 
 #[no_mangle]
@@ -464,7 +562,8 @@ pub extern "C" fn qspi_read_page_read(
     ensures logged { λ r. ⌜ now (log .exit) ≡ loggedOf (called (call.read false false addr (length (now (buffer .entry)))) (length (now (log .entry)) / 2) (now (replies .entry))) (now (log .entry)) ⌝ }
     ensures stored { λ r. ⌜ now (buffer .exit) ≡ bufferedOf (called (call.read false false addr (length (now (buffer .entry)))) (length (now (log .entry)) / 2) (now (replies .entry))) (now (buffer .entry)) ⌝ }
 {
-    ran_out(qspi_runs::read_page_read(addr, buffer, replies, log))
+    let op = start::read_page_read(addr, buffer.len(), log.len());
+    read(op, buffer, replies, log)
 }
 
 #[no_mangle]
@@ -479,7 +578,8 @@ pub extern "C" fn qspi_read_fast_read(
     ensures logged { λ r. ⌜ now (log .exit) ≡ loggedOf (called (call.read true «dummy_byte» addr (length (now (buffer .entry)))) (length (now (log .entry)) / 2) (now (replies .entry))) (now (log .entry)) ⌝ }
     ensures stored { λ r. ⌜ now (buffer .exit) ≡ bufferedOf (called (call.read true «dummy_byte» addr (length (now (buffer .entry)))) (length (now (log .entry)) / 2) (now (replies .entry))) (now (buffer .entry)) ⌝ }
 {
-    ran_out(qspi_runs::read_fast_read(addr, dummy_byte, buffer, replies, log))
+    let op = start::read_fast_read(addr, dummy_byte, buffer.len(), log.len());
+    read(op, buffer, replies, log)
 }
 
 #[no_mangle]
@@ -487,8 +587,8 @@ pub extern "C" fn qspi_read_status_register_1(replies: &[u32], log: &mut [u32]) 
     ensures ran { λ r. ⌜ r ≡ numbers.valued (called call.readStatus (length (now (log .entry)) / 2) (now (replies .entry))) ⌝ }
     ensures logged { λ r. ⌜ now (log .exit) ≡ loggedOf (called call.readStatus (length (now (log .entry)) / 2) (now (replies .entry))) (now (log .entry)) ⌝ }
 {
-    let r = qspi_runs::read_status_register_1(replies, log);
-    value_out(r.ran, r.value as u32)
+    let op = start::read_status_register_1(log.len());
+    register(op, replies, log)
 }
 
 #[no_mangle]
@@ -496,8 +596,8 @@ pub extern "C" fn qspi_read_configuration_register(replies: &[u32], log: &mut [u
     ensures ran { λ r. ⌜ r ≡ numbers.valued (called call.readConfig (length (now (log .entry)) / 2) (now (replies .entry))) ⌝ }
     ensures logged { λ r. ⌜ now (log .exit) ≡ loggedOf (called call.readConfig (length (now (log .entry)) / 2) (now (replies .entry))) (now (log .entry)) ⌝ }
 {
-    let r = qspi_runs::read_configuration_register(replies, log);
-    value_out(r.ran, r.value as u32)
+    let op = start::read_configuration_register(log.len());
+    register(op, replies, log)
 }
 
 #[no_mangle]
@@ -505,7 +605,9 @@ pub extern "C" fn qspi_read_rdid_base(replies: &[u32], log: &mut [u32]) -> QspiI
     ensures ran { λ r. ⌜ r ≡ numbers.identified (called call.readId (length (now (log .entry)) / 2) (now (replies .entry))) ⌝ }
     ensures logged { λ r. ⌜ now (log .exit) ≡ loggedOf (called call.readId (length (now (log .entry)) / 2) (now (replies .entry))) (now (log .entry)) ⌝ }
 {
-    id_out(qspi_runs::read_rdid_base(replies, log))
+    let op = start::read_rdid_base(log.len());
+    let s = run::command(op, replies, log);
+    id_out(run::finish(s), id_of(s))
 }
 
 #[no_mangle]
@@ -513,7 +615,9 @@ pub extern "C" fn qspi_read_rdid_extended(replies: &[u32], log: &mut [u32]) -> Q
     ensures ran { λ r. ⌜ r ≡ numbers.identifiedAtLength (called call.readLongId (length (now (log .entry)) / 2) (now (replies .entry))) ⌝ }
     ensures logged { λ r. ⌜ now (log .exit) ≡ loggedOf (called call.readLongId (length (now (log .entry)) / 2) (now (replies .entry))) (now (log .entry)) ⌝ }
 {
-    long_id_out(qspi_runs::read_rdid_extended(replies, log))
+    let op = start::read_rdid_extended(log.len());
+    let s = run::command(op, replies, log);
+    long_id_out(run::finish(s), long_id_of(s))
 }
 
 #[no_mangle]

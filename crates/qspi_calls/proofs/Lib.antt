@@ -16,3 +16,4 @@ pub mod ReadCalls
 pub mod PromptLogs
 pub mod WireOrder
 pub mod Registers
+pub mod Promised

@@ -4,3 +4,4 @@ pub mod Calls
 pub mod Starts
 pub mod Values
 pub mod Prompt
+pub mod Promise

@@ -14,7 +14,7 @@ use Rattle.qspi_script.specs.declared.Status.{Status}
 use Rattle.qspi_calls.specs.Machine.{Script, called}
 use Rattle.qspi_calls.specs.Starts.{oneTransfer}
 use Rattle.qspi_calls.proofs.Whole.{Starts, whole}
-use Rattle.qspi_runs.specs.Promise.{loggedOf, bufferedOf}
+use Rattle.qspi_calls.specs.Promise.{loggedOf, bufferedOf}
 use Rattle.qspi_driver.specs.State.{begunIf, begunOf, holds, isUnderWay}
 use Rattle.qspi_driver.specs.Driver.{Driver, Drive, idle, reached, drivenIf, drivenOf}
 use Rattle.qspi_driver.specs.declared.state.State.{State}

@@ -9,7 +9,7 @@ use Rattle.qspi_operation.specs.declared.Stepped.{Stepped}
 use Rattle.qspi_operation.specs.Step.{isGoing}
 use Rattle.qspi_operation.specs.Run.{Run, runOf}
 use Rattle.qspi_calls.specs.Starts.{writePagesOf}
-use Rattle.qspi_runs.specs.Promise.{Ended}
+use Rattle.qspi_calls.specs.Promise.{Ended}
 use Rattle.power_cut.proofs.Promised.{promised, saved}
 use Rattle.qspi_driver.specs.declared.Driven.{Driven}
 use Rattle.qspi_driver.specs.Driver.{Driver, Drive, drivenIf, drivenOf}

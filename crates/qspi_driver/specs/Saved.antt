@@ -7,8 +7,8 @@ use Rattle.qspi_script.specs.declared.Status.{Status}
 use Rattle.qspi_operation.specs.Step.{programmedOf}
 use Rattle.qspi_calls.specs.Machine.{called, countIn}
 use Rattle.qspi_calls.specs.Calls.{writePages}
-use Rattle.qspi_runs.specs.declared.Ran.{Ran}
-use Rattle.qspi_runs.specs.Promise.{ranOf, loggedOf, handed}
+use Rattle.qspi_calls.specs.declared.run.Ran.{Ran}
+use Rattle.qspi_calls.specs.Promise.{ranOf, loggedOf, handed}
 use Rattle.power_cut.specs.Promise.{Saved}
 use Rattle.qspi_driver.specs.declared.state.Answer.the-variants.{Given, Busy}
 use Rattle.qspi_driver.specs.declared.Driven.{Driven}

@@ -8,7 +8,7 @@ use Rattle.qspi_operation.specs.declared.Op.{Op}
 use Rattle.qspi_operation.specs.declared.Reply.{Reply}
 use Rattle.qspi_operation.specs.declared.Stepped.{Stepped}
 use Rattle.qspi_operation.specs.Step.{isGoing, stepOf, programmedOf}
-use Rattle.qspi_runs.specs.Promise.{keptOf}
+use Rattle.qspi_calls.specs.Promise.{keptOf}
 use Rattle.qspi_driver.specs.declared.state.State.{State}
 use Rattle.qspi_driver.specs.declared.state.Answer.{Answer}
 use Rattle.qspi_driver.specs.declared.state.Answer.the-variants.{Given, Busy}

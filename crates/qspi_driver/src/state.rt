@@ -7,6 +7,7 @@ ghost use Rattle.zedboard_bsp.specs.DeviceId.{baseBytes, extendedBytes, replyBy
 ghost use Rattle.qspi_script.specs.Stages.{numberOf};
 ghost use Rattle.qspi_operation.specs.Step.{isGoing, dueOf, logOf, bufferOf, replyOf};
 ghost use Rattle.qspi_driver.specs.State.{numberUnless, numberIn, begunOf, actedBy, steppedOf, progressOf, isUnderWay};
+use qspi_calls::run;
 use qspi_operation::Asked;
 use qspi_operation::Op;
 use qspi_operation::Reply;
@@ -137,9 +138,9 @@ pub fn answer_so_far(state: State) -> Progress
         used: op.used,
         replies: op.replies,
         programmed: qspi_operation::programmed(op),
-        older: qspi_runs::kept(status, wire.older),
-        old: qspi_runs::kept(status, wire.old),
-        last: qspi_runs::kept(status, wire.last),
+        older: run::kept(status, wire.older),
+        old: run::kept(status, wire.old),
+        last: run::kept(status, wire.last),
     }
 }
 

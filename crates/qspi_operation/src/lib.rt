@@ -4,7 +4,8 @@ ghost use mathlib.Core.Path.{_≡_};
 ghost use Prim.Native.Nat.{_+_, _≤_};
 ghost use lib.Dec.{leb};
 ghost use lib.ListN.{length};
-ghost use Rattle.qspi_transfer.specs.Wire.{wireNext};
+ghost use Rattle.qspi_transfer.specs.Wire.{freshWire, pickWire, wireNext};
+ghost use Rattle.qspi_transfer.specs.declared.Phase.the-variants.{DrainStatus};
 ghost use Rattle.qspi_script.specs.Stages.{frameOf};
 ghost use Rattle.qspi_script.specs.declared.Status.the-variants.{Going};
 ghost use Rattle.qspi_operation.specs.Step.{isGoing, registerAccess, sendAccess, turnedOn, accessOf, shown, dueOf, askedAnswer, answered, sameLengths, going, stopped, counted, written, replyOf, stepOf, logOf, bufferOf, programmedOf};
@@ -110,21 +111,10 @@ fn is_on(how: How) -> bool
 pub fn is_going(status: Status) -> bool
     ensures going { λ r. ⌜ r ≡ isGoing status ⌝ }
 {
-    match status {
-        Status::Going => true,
-        Status::Done => false,
-        Status::OutOfRange => false,
-        Status::Alignment => false,
-        Status::DataTooLarge => false,
-        Status::NotAligned => false,
-        Status::CrossesPageBoundary => false,
-        Status::AddressSpan => false,
-        Status::FieldTooWide => false,
-        Status::EraseErrorBitSet => false,
-        Status::ProgrammingErrorBitSet => false,
-        Status::RepliesEnded => false,
-        Status::LogFull => false,
-        Status::LentLengthChanged => false,
+    if let Status::Going = status {
+        true
+    } else {
+        false
     }
 }
 
@@ -291,7 +281,17 @@ fn stop(op: Op, status: Status) -> Stepped
     }
 }
 
-// The next transfer begins; after the last one the replies stay for the answer.
+// The wire of the next transfer; after the last one the replies stay for the answer.
+fn wire_after(status: Status, wire: Wire) -> Wire
+    ensures wire { λ r. ⌜ r ≡ pickWire (isGoing status) (freshWire DrainStatus) wire ⌝ }
+{
+    if is_going(status) {
+        qspi_transfer::begin(Phase::DrainStatus)
+    } else {
+        wire
+    }
+}
+
 fn turned(op: Op, used: usize, replies: usize) -> Stepped
     ensures stepped { λ r. ⌜ r ≡ turnedOn op used replies ⌝ }
 {
@@ -300,33 +300,18 @@ fn turned(op: Op, used: usize, replies: usize) -> Stepped
     let t = qspi_script::turn(job, op.place, wire.last);
     let place = t.place;
     let status = t.status;
-    if is_going(status) {
-        let fresh = qspi_transfer::begin(Phase::DrainStatus);
-        let next = Op {
-            job,
-            place,
-            wire: fresh,
-            used,
-            replies,
-            status,
-        };
-        Stepped {
-            op: next,
-            answer: status,
-        }
-    } else {
-        let next = Op {
-            job,
-            place,
-            wire,
-            used,
-            replies,
-            status,
-        };
-        Stepped {
-            op: next,
-            answer: status,
-        }
+    let wire = wire_after(status, wire);
+    let next = Op {
+        job,
+        place,
+        wire,
+        used,
+        replies,
+        status,
+    };
+    Stepped {
+        op: next,
+        answer: status,
     }
 }
 

@@ -45,45 +45,13 @@ fn store_reply(buffer: &mut [u8], place: Place, dummy: u32, at: u32, reply: u32)
 fn is_taking(phase: Phase) -> bool
     ensures taking { λ r. ⌜ r ≡ isTaking phase ⌝ }
 {
-    match phase {
-        Phase::DrainStatus => false,
-        Phase::DrainData => false,
-        Phase::OpenRead => false,
-        Phase::OpenWrite => false,
-        Phase::Enable => false,
-        Phase::Send => false,
-        Phase::StartRead => false,
-        Phase::StartWrite => false,
-        Phase::Wait => false,
-        Phase::WaitAgain => false,
-        Phase::Take => true,
-        Phase::CloseRead => false,
-        Phase::CloseWrite => false,
-        Phase::Disable => false,
-        Phase::Registers => false,
-    }
+    if let Phase::Take = phase { true } else { false }
 }
 
 fn is_reading(stage: Stage) -> bool
     ensures reading { λ r. ⌜ r ≡ isReading stage ⌝ }
 {
-    match stage {
-        Stage::Enable => false,
-        Stage::Disable => false,
-        Stage::Clear => false,
-        Stage::ReadStatus => false,
-        Stage::ReadConfig => false,
-        Stage::WriteStatus => false,
-        Stage::WriteRegisters => false,
-        Stage::ReadId => false,
-        Stage::ReadLongId => false,
-        Stage::Erase => false,
-        Stage::Program => false,
-        Stage::Poll => false,
-        Stage::Read => true,
-        Stage::Registers => false,
-        Stage::End => false,
-    }
+    if let Stage::Read = stage { true } else { false }
 }
 
 // How many bytes of the reply after the first are dropped.

@@ -1,43 +1,13 @@
-// The calls that a request can name, by the Rust's names and by their places in this table; what they take;
-// how they start.
+// What the calls of a request take, and how they start.
 use crate::items;
 use crate::request;
 use qspi_calls::start;
 use qspi_operation::Op;
-
-pub const NAMES: [u8; 196] = *b"\
-    write_enable|\
-    write_disable|\
-    clear_status|\
-    disable|\
-    read_status_register_1|\
-    read_configuration_register|\
-    read_rdid_base|\
-    read_rdid_extended|\
-    erase_sector|\
-    program|\
-    write_pages|\
-    read_page_read|\
-    read_fast_read|\
-";
-
-pub const READ_RDID_EXTENDED: usize = 7;
-
-pub const ERASE_SECTOR: usize = 8;
-
-pub const PROGRAM: usize = 9;
-
-pub const WRITE_PAGES: usize = 10;
-
-pub const READ_PAGE_READ: usize = 11;
-
-pub const READ_FAST_READ: usize = 12;
-
-pub const CALLS: usize = 13;
-
-pub fn programs(call: usize) -> bool {
-    call == PROGRAM || call == WRITE_PAGES
-}
+use sim_report::calls::ERASE_SECTOR;
+use sim_report::calls::PROGRAM;
+use sim_report::calls::READ_FAST_READ;
+use sim_report::calls::READ_PAGE_READ;
+use sim_report::calls::WRITE_PAGES;
 
 // Whether the call takes an item. What it takes it needs, but for `dummy`.
 pub fn takes(call: usize, item: usize) -> bool {
@@ -45,7 +15,7 @@ pub fn takes(call: usize, item: usize) -> bool {
         return ERASE_SECTOR <= call;
     }
     if item == items::DATA {
-        return programs(call);
+        return call == PROGRAM || call == WRITE_PAGES;
     }
     if item == items::LENGTH {
         READ_PAGE_READ <= call

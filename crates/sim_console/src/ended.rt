@@ -3,24 +3,8 @@ use qspi_operation::Op;
 use qspi_script::Stage;
 use qspi_script::Status;
 use qspi_transfer::Phase;
+use sim_report::Ended;
 use simulated_device::run::Ran;
-
-pub struct Ended {
-    // Document 01's number, and whether the call is done.
-    pub answer: u32,
-    pub done: bool,
-    pub used: usize,
-    pub replies: usize,
-    pub programmed: usize,
-    // The device could not go on.
-    pub refused: bool,
-    // The erase command is out, and the status loop has not ended.
-    pub erasing: bool,
-    // The last three replies.
-    pub older: u32,
-    pub old: u32,
-    pub last: u32,
-}
 
 fn is_done(status: Status) -> bool {
     if let Status::Done = status {
@@ -61,15 +45,13 @@ pub fn of_run(ran: Ran) -> Ended {
     let op = ran.op;
     let wire = op.wire;
     let answer = ran.answer;
-    let done = is_done(answer);
     Ended {
-        answer: answer.number(),
-        done,
+        answer,
         used: op.used,
         replies: op.replies,
         programmed: qspi_operation::programmed(op),
         refused: ran.refused,
-        erasing: is_erasing(op, done),
+        erasing: is_erasing(op, is_done(answer)),
         older: wire.older,
         old: wire.old,
         last: wire.last,

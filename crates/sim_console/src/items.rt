@@ -39,9 +39,6 @@ pub const UNLIMITED: usize = 0xFFFF_FFFF;
 // `cut all`.
 pub const EVERY: usize = 0xFFFF_FFFF;
 
-// No cut is asked for.
-pub const NEVER: usize = 0x1_0000_0000;
-
 // Where the line of the first item stands, the line read last, and its item.
 const LINES: usize = 11;
 
@@ -62,7 +59,7 @@ pub const DEFAULTS: [usize; SAID] = [
     0,
     MOST_ACCESSES,
     UNLIMITED,
-    NEVER,
+    sim_report::NEVER,
     0,
     0,
     0,

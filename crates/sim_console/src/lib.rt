@@ -1,12 +1,12 @@
 // One call of the driver against the simulated controller and flash, as a request on standard input
 // says (`request`): the run is printed (`report`), or the one line that says what is wrong (`fault`).
 ghost use Prim.Native.Nat.{_≤_};
-use crate::ended::Ended;
 use crate::items::MOST_ACCESSES;
 use crate::items::MOST_BYTES;
 use crate::request::PART;
 use crate::words::least;
 use libc::STDIN_FILENO;
+use sim_report::Ended;
 use simulated_device::Choices;
 
 mod calls;

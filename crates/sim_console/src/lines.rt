@@ -1,10 +1,10 @@
 // The lines of a request: each says one item. A function that reads one gives what is wrong with it.
-use crate::calls;
 use crate::fault;
 use crate::items;
 use crate::numbers;
 use crate::numbers::Parsed;
 use crate::words;
+use sim_report::calls;
 
 const LONGEST: usize = 1024;
 

@@ -1,340 +1,35 @@
-// What is printed of a run: the log; the answer, or the cut; the used counts; `programmed` of
-// `write_pages`; `finished` of this and `program`; `in doubt` of these and `erase_sector`; the register,
-// id or bytes of a read that is done; and the pages that changed. Of `cut all`, one line a cut.
-ghost use Prim.Native.Nat.{_≤_, _<_};
-use crate::calls;
-use crate::ended::Ended;
+// A request's run is handed to `sim_report`, with what the observer makes of its log.
 use crate::items;
 use crate::request;
-use crate::words;
-use log_observer::Spot;
-use printing::decimal;
-use printing::hex;
-use printing::text;
-use zedboard_bsp::qspi_spansion::words::bytes_of;
-use zedboard_bsp::qspi_spansion::words::top_byte;
+use sim_report::Case;
+use sim_report::Ended;
+use sim_report::Shown;
+use sim_report::Spot;
 
-// Words of log that are rendered at once.
-const PORTION: usize = 1024;
-
-const PAGE: usize = 256;
-
-// What the log shows: the chunks finished, their bytes, and what the flash may hold anything in.
-struct Shown {
-    finished: usize,
-    bytes: usize,
-    doubt: Spot,
-}
-
-// ---- the log
-
-fn portion(left: usize) -> usize
-    requires { ⌜ 0 < left ⌝ }
-    ensures within { λ r. ⌜ (0 < r) × (r ≤ left) ⌝ }
-{
-    if left < PORTION { left } else { PORTION }
-}
-
-fn accesses(log: &[u32]) {
-    let mut at = 0;
-    while at < log.len() {
-        let end = at + portion(log.len() - at);
-        rendered(&log[at..end]);
-        at = end;
+fn case(request: &[usize]) -> Case {
+    Case {
+        call: items::of(request, items::CALL),
+        address: request::address(request),
+        base: request::base_of(request),
+        cut: items::of(request, items::CUT),
     }
 }
 
-fn rendered(log: &[u32]) {
-    let mut lines = [0u8; 7200];
-    let rendered = access_log::render_words(log, 0, &mut lines);
-    let len = rendered.len;
-    text(&lines[..len]);
-}
-
-// As much of the log as was used.
-fn front(log: &[u32], used: usize) -> &[u32] {
-    if used <= log.len() {
-        &log[0..used]
-    } else {
-        log
-    }
-}
-
-// ---- the end
-
-fn counted(before: &[u8], n: usize, after: &[u8]) {
-    decimal(before, n);
-    text(after);
-}
-
-fn answer(number: u32) {
-    text(b"answer ");
-    printing::answer(number);
-    text(b"\n");
-}
-
-// The answer, or the cut in its place.
-fn end(cut: usize, answered: u32, made: usize) {
-    if cut == made {
-        return counted(b"cut after ", made, b" accesses\n");
-    }
-    if cut < items::NEVER {
-        counted(b"ended after ", made, b" accesses, before the cut\n");
-    }
-    answer(answered)
-}
-
-// Says where the device could not go on.
-pub fn refused(is_refused: bool, used: usize) {
-    if is_refused {
-        counted(
-            b"the device could not go on after ",
-            used / 2,
-            b" accesses\n",
-        );
-    }
-}
-
-// ---- the chunks
-
-fn nowhere() -> Spot {
-    Spot {
-        there: false,
-        address: 0,
-        length: 0,
-    }
-}
-
-// A page program's chunk is told by the log, and a sector by where its erase stands.
-fn seen(request: &[usize], log: &[u32], used: usize, is_erasing: bool) -> Shown {
+// What the observer makes of the log.
+fn seen(log: &[u32], used: usize) -> Shown {
     let watch = log_observer::observe(log, used / 2);
     let chunk = watch.doubt;
-    let sector = Spot {
-        there: is_erasing,
-        address: request::address(request),
-        length: 0x1_0000,
+    let doubt = Spot {
+        there: chunk.there,
+        address: chunk.address,
+        length: chunk.length,
     };
     Shown {
         finished: watch.finished as usize,
         bytes: watch.bytes as usize,
-        doubt: if is_erasing { sector } else { chunk },
-    }
-}
-
-fn length(length: u32) {
-    if length < 0x100 {
-        hex(b" ", length, 2)
-    } else {
-        hex(b" ", length, 5)
-    }
-}
-
-fn spot(name: &[u8], none: &[u8], doubt: Spot) {
-    if !doubt.there {
-        return text(none);
-    }
-    address(name, doubt.address);
-    length(doubt.length)
-}
-
-fn works(call: usize) -> bool {
-    calls::programs(call) || call == calls::ERASE_SECTOR
-}
-
-fn chunks(call: usize, programmed: usize, shown: Shown) {
-    if call == calls::WRITE_PAGES {
-        counted(b"programmed ", programmed, b"\n");
-    }
-    if calls::programs(call) {
-        decimal(b"finished ", shown.finished);
-        counted(b", bytes ", shown.bytes, b"\n");
-    }
-    if works(call) {
-        spot(b"in doubt ", b"in doubt none", shown.doubt);
-        text(b"\n");
-    }
-}
-
-// ---- bytes
-
-// An address of the flash has six digits. Reads take greater ones too.
-fn address(name: &[u8], address: u32) {
-    if address < 0x100_0000 {
-        hex(name, address, 6)
-    } else {
-        hex(name, address, 8)
-    }
-}
-
-fn octet(byte: u8) {
-    hex(b" ", byte as u32, 2);
-}
-
-fn lies_in(doubt: Spot, address: u32) -> bool {
-    if !doubt.there {
-        return false;
-    }
-    if address < doubt.address {
-        return false;
-    }
-    address - doubt.address < doubt.length
-}
-
-// A byte, with its address where it begins a line.
-fn cell(name: &[u8], byte: u8, place: u32, at: usize, doubt: Spot) {
-    if at % 16 == 0 {
-        address(name, place);
-    }
-    if lies_in(doubt, place) {
-        text(b" ??")
-    } else {
-        octet(byte)
-    }
-}
-
-fn row_end(at: usize, len: usize) {
-    let next = std::num::wrapping_add_usize(at, 1);
-    if next == len || next % 16 == 0 {
-        text(b"\n");
-    }
-}
-
-fn further(address: u32, at: usize) -> u32 {
-    std::num::wrapping_add_u32(address, request::word(at))
-}
-
-// Bytes, sixteen a line.
-fn rows(name: &[u8], bytes: &[u8], address: u32, doubt: Spot) {
-    let mut i = 0;
-    while i < bytes.len() {
-        cell(name, bytes[i], further(address, i), i, doubt);
-        row_end(i, bytes.len());
-        i += 1;
-    }
-}
-
-// ---- what was read
-
-fn register(reply: u32) {
-    text(b"register");
-    octet(top_byte(reply));
-    text(b"\n");
-}
-
-fn octets(bytes: &[u8]) {
-    let mut i = 0;
-    while i < bytes.len() {
-        octet(bytes[i]);
-        i += 1;
-    }
-}
-
-// Three bytes of a reply, behind the one that came in while the command went out.
-fn id(reply: u32) {
-    let bytes = bytes_of(reply);
-    text(b"id");
-    octets(&bytes[1..]);
-}
-
-// The id of one reply, or of three.
-fn read_id(is_long: bool, older: u32, old: u32, last: u32) {
-    if is_long {
-        id(older);
-        octets(&bytes_of(old));
-        octet(bytes_of(last)[0]);
-    } else {
-        id(last);
-    }
-    text(b"\n");
-}
-
-// What a call that is done has read. Calls go by their places in the table: reads of registers, of ids, of
-// the array; any other has no buffer, and nothing is printed.
-fn value(request: &[usize], ended: Ended, buffer: &[u8]) {
-    let call = items::of(request, items::CALL);
-    if !ended.done {
-        return;
-    }
-    match call {
-        4..=5 => register(ended.last),
-        6..=7 => read_id(
-            call == calls::READ_RDID_EXTENDED,
-            ended.older,
-            ended.old,
-            ended.last,
-        ),
-        _ => rows(b"read ", buffer, request::address(request), nowhere()),
-    }
-}
-
-// ---- pages
-
-fn touches(doubt: Spot, address: u32) -> bool {
-    if !doubt.there {
-        return false;
-    }
-    let page = address as usize;
-    let from = doubt.address as usize;
-    if page + PAGE <= from {
-        return false;
-    }
-    page < from + doubt.length as usize
-}
-
-// 1 for a page that changed or may have.
-fn page(before: &[u8], after: &[u8], place: u32, doubt: Spot, is_shown: bool) -> usize {
-    if words::same(before, after) {
-        if !touches(doubt, place) {
-            return 0;
-        }
-    }
-    if is_shown {
-        address(b"page ", place);
-        text(b"\n");
-        rows(b"", after, place, doubt);
-    }
-    1
-}
-
-fn page_at(
-    before: &[u8],
-    array: &[u8],
-    base: u32,
-    from: usize,
-    doubt: Spot,
-    is_shown: bool,
-) -> usize {
-    let to = std::num::wrapping_add_usize(from, PAGE);
-    page(
-        words::part(before, from, to),
-        words::part(array, from, to),
-        further(base, from),
         doubt,
-        is_shown,
-    )
-}
-
-// The pages that changed, counted.
-fn pages(before: &[u8], array: &[u8], base: u32, doubt: Spot, is_shown: bool) -> usize {
-    let mut count: usize = 0;
-    let mut n = 0;
-    while n < array.len() / PAGE {
-        let one = page_at(before, array, base, n * PAGE, doubt, is_shown);
-        count = std::num::wrapping_add_usize(count, one);
-        n += 1;
-    }
-    count
-}
-
-// The pages of a sector in doubt are not printed: nothing is known of any byte.
-fn changes(before: &[u8], array: &[u8], base: u32, doubt: Spot) {
-    let is_shown = doubt.length as usize <= PAGE;
-    if pages(before, array, base, doubt, is_shown) == 0 {
-        text(b"no page changed\n");
     }
 }
-
-// ---- a run, and a line of `cut all`
 
 pub fn whole(
     request: &[usize],
@@ -344,37 +39,18 @@ pub fn whole(
     before: &[u8],
     array: &[u8],
 ) {
-    let used = front(log, ended.used);
-    let shown = seen(request, used, ended.used, ended.erasing);
-    accesses(used);
-    if ended.refused {
-        refused(true, ended.used);
-    } else {
-        end(items::of(request, items::CUT), ended.answer, ended.used / 2);
-    }
-    decimal(b"used log words ", ended.used);
-    counted(b", replies ", ended.replies, b"\n");
-    chunks(items::of(request, items::CALL), ended.programmed, shown);
-    value(request, ended, buffer);
-    changes(before, array, request::base_of(request), shown.doubt);
-}
-
-fn chunks_in_line(call: usize, shown: Shown) {
-    if calls::programs(call) {
-        decimal(b" finished ", shown.finished);
-        decimal(b" bytes ", shown.bytes);
-    }
-    if works(call) {
-        spot(b" doubt ", b" doubt -", shown.doubt);
-    }
+    let seen = seen(log, ended.used);
+    sim_report::whole(case(request), ended, seen, log, buffer, before, array);
 }
 
 pub fn cut_line(request: &[usize], ended: Ended, log: &[u32], before: &[u8], array: &[u8]) {
-    let call = items::of(request, items::CALL);
-    let shown = seen(request, log, ended.used, ended.erasing);
-    decimal(b"", ended.used / 2);
-    chunks_in_line(call, shown);
-    let base = request::base_of(request);
-    decimal(b" pages ", pages(before, array, base, shown.doubt, false));
-    text(b"\n");
+    let seen = seen(log, ended.used);
+    sim_report::cut_line(case(request), ended, seen, before, array);
+}
+
+// Says where the device could not go on.
+pub fn refused(is_refused: bool, used: usize) {
+    if is_refused {
+        sim_report::refused(used);
+    }
 }

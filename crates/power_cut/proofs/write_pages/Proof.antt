@@ -10,33 +10,33 @@ use Rattle.power_cut.proofs.write_pages.Lts as lts
 use Rattle.qspi_calls.proofs.start.write_pages.Reads as write-pages-reads
 use Rattle.qspi_operation.proofs.programmed.Reads as programmed-reads
 use Rattle.qspi_operation.proofs.run.Reads as run-reads
-use Rattle.qspi_runs.proofs.finish.Reads as finish-reads
+use Rattle.qspi_calls.proofs.run.finish.Reads as finish-reads
 
--- src/lib.rt:23:9
+-- src/lib.rt:24:9
 write-pages-requires : tie.Need-write-pages-requires
 write-pages-requires c κs = search needs
 
--- src/lib.rt:25:43
+-- src/lib.rt:26:43
 slice-aggregate-run : tie.Need-slice-aggregate-run
 slice-aggregate-run c = search needs
 
--- src/lib.rt:25:9
+-- src/lib.rt:26:9
 run-requires : tie.Need-run-requires
 run-requires c κs = search needs
 
--- src/lib.rt:26:9
+-- src/lib.rt:27:9
 programmed-requires : tie.Need-programmed-requires
 programmed-requires c κs = search needs
 
--- src/lib.rt:27:9
+-- src/lib.rt:28:9
 finish-requires : tie.Need-finish-requires
 finish-requires c κs = search needs
 
--- src/lib.rt:18:1
+-- src/lib.rt:19:1
 same-length : tie.Need-same-length
 same-length c = search needs
 
--- src/lib.rt:18:1
+-- src/lib.rt:19:1
 returns : tie.Need-returns
 returns c =
     let w = c .before .before .before .before .before .before .before .before .before .before .before in

@@ -10,27 +10,27 @@ use Rattle.zynq7000.proofs.qspi.BaudRateDivisor.divisor.Reads as divisor-reads
 use Rattle.zynq7000.proofs.slcr.clocks.SrcSelIo.raw_value.Reads as raw-value-reads
 use Rattle.zynq7000_hal.proofs.qspi.BaudRateConfig.baud_rate_divisor.Reads as baud-rate-divisor-reads
 
--- src/lib.rt:194:9
+-- src/lib.rt:253:9
 baud-rate-divisor-requires : tie.Need-baud-rate-divisor-requires
 baud-rate-divisor-requires c κs = search needs
 
--- src/lib.rt:197:18
+-- src/lib.rt:256:18
 raw-value-requires : tie.Need-raw-value-requires
 raw-value-requires c κs = search needs
 
--- src/lib.rt:198:22
+-- src/lib.rt:257:22
 cast-t6 : tie.Need-cast-t6
 cast-t6 c = search needs
 
--- src/lib.rt:199:19
+-- src/lib.rt:258:19
 loopback-number-requires : tie.Need-loopback-number-requires
 loopback-number-requires c κs = search needs
 
--- src/lib.rt:200:28
+-- src/lib.rt:259:28
 divisor-requires : tie.Need-divisor-requires
 divisor-requires c κs = search needs
 
--- src/lib.rt:189:1
+-- src/lib.rt:248:1
 returns : tie.Need-returns
 returns c = outputs.config (c .before .before .before .before .before .args .config) (c .before .before .before .raw-value .ensures .0) (c .before .loopback-number .ensures) (c .before .before .before .before .baud-rate-divisor .ensures) (c .divisor .ensures)
 

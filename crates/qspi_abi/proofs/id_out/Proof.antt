@@ -13,47 +13,45 @@ use Rattle.zedboard_bsp.proofs.qspi_spansion.device_id.BaseDeviceId.device_id_r
 use Rattle.zedboard_bsp.proofs.qspi_spansion.device_id.BaseDeviceId.manufacturer_id.Reads as manufacturer-id-reads
 use Rattle.zedboard_bsp.proofs.qspi_spansion.device_id.BaseDeviceId.memory_interface_type.Reads as memory-interface-type-reads
 
--- src/lib.rt:143:17
+-- src/lib.rt:204:17
 number-requires : tie.Need-number-requires
 number-requires c κs = search needs
 
--- src/lib.rt:144:26
+-- src/lib.rt:205:26
 manufacturer-id-requires : tie.Need-manufacturer-id-requires
 manufacturer-id-requires c κs = search needs
 
--- src/lib.rt:144:26
-cast-t7 : tie.Need-cast-t7
-cast-t7 c = search needs
+-- src/lib.rt:205:26
+cast-t6 : tie.Need-cast-t6
+cast-t6 c = search needs
 
--- src/lib.rt:145:20
+-- src/lib.rt:206:20
 device-id-raw-requires : tie.Need-device-id-raw-requires
 device-id-raw-requires c κs = search needs
 
--- src/lib.rt:145:20
-cast-t9 : tie.Need-cast-t9
-cast-t9 c = search needs
+-- src/lib.rt:206:20
+cast-t8 : tie.Need-cast-t8
+cast-t8 c = search needs
 
--- src/lib.rt:146:56
+-- src/lib.rt:207:56
 memory-interface-type-requires : tie.Need-memory-interface-type-requires
 memory-interface-type-requires c κs = search needs
 
--- src/lib.rt:146:32
+-- src/lib.rt:207:32
 interface-number-requires : tie.Need-interface-number-requires
 interface-number-requires c κs = search needs
 
--- src/lib.rt:147:40
+-- src/lib.rt:208:40
 density-requires : tie.Need-density-requires
 density-requires c κs = search needs
 
--- src/lib.rt:147:18
+-- src/lib.rt:208:18
 density-number-requires : tie.Need-density-number-requires
 density-number-requires c κs = search needs
 
--- src/lib.rt:136:1
+-- src/lib.rt:199:1
 returns : tie.Need-returns
-returns c =
-    let x = c .before .before .before .before .before .before .before .before .before .args .id-ran in
-    outputs.base-id (x .ran) (x .id) (c .before .before .before .before .before .before .number .ensures) (c .before .before .before .before .before .manufacturer-id .ensures) (c .before .before .before .before .device-id-raw .ensures) (c .before .before .before .memory-interface-type .ensures) (c .before .before .interface-number .ensures) (c .before .density .ensures) (c .density-number .ensures)
+returns c = outputs.base-id (c .before .before .before .before .before .before .before .args .ran) (c .before .before .before .before .before .before .before .args .id) (c .before .before .before .before .before .before .number .ensures) (c .before .before .before .before .before .manufacturer-id .ensures) (c .before .before .before .before .device-id-raw .ensures) (c .before .before .before .memory-interface-type .ensures) (c .before .before .interface-number .ensures) (c .before .density .ensures) (c .density-number .ensures)
 
 pub id-out-spec : {M : Type 1} → statement M
 id-out-spec =
@@ -61,9 +59,9 @@ id-out-spec =
     (tie.spec
     number-requires
     manufacturer-id-requires
-    cast-t7
+    cast-t6
     device-id-raw-requires
-    cast-t9
+    cast-t8
     memory-interface-type-requires
     interface-number-requires
     density-requires

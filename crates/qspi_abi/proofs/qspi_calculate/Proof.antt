@@ -13,27 +13,27 @@ use Rattle.qspi_abi.proofs.clock_refused.Reads as clock-refused-reads
 use Rattle.qspi_abi.proofs.codes.source.Reads as source-reads
 use Rattle.zynq7000_hal.proofs.qspi.ClockConfig.calculate.Reads as calculate-reads
 
--- src/lib.rt:226:9
+-- src/lib.rt:285:9
 clock-refused-requires : tie.Need-clock-refused-requires
 clock-refused-requires c κs = search needs
 
--- src/lib.rt:226:9
+-- src/lib.rt:285:9
 returns : tie.Need-returns
 returns c = rw (lt-ltb _ _ (c .before .if1 .taken)) (c .clock-refused .ensures)
 
--- src/lib.rt:235:9
+-- src/lib.rt:294:9
 source-requires : tie.Need-source-requires
 source-requires c κs = search needs
 
--- src/lib.rt:234:15
+-- src/lib.rt:293:15
 calculate-requires : tie.Need-calculate-requires
 calculate-requires c κs = search needs
 
--- src/lib.rt:234:5
+-- src/lib.rt:293:5
 clock-out-requires : tie.Need-clock-out-requires
 clock-out-requires c κs = search needs
 
--- src/lib.rt:213:1
+-- src/lib.rt:272:1
 returns-2 : tie.Need-returns-2
 returns-2 c =
     let x = c .before .before .before .before .args in

@@ -13,27 +13,27 @@ use Rattle.qspi_abi.proofs.clock_refused.Reads as clock-refused-reads
 use Rattle.qspi_abi.proofs.codes.source.Reads as source-reads
 use Rattle.zynq7000_hal.proofs.qspi.ClockConfig.calculate_with_loopback.Reads as calculate-with-loopback-reads
 
--- src/lib.rt:254:9
+-- src/lib.rt:313:9
 clock-refused-requires : tie.Need-clock-refused-requires
 clock-refused-requires c κs = search needs
 
--- src/lib.rt:254:9
+-- src/lib.rt:313:9
 returns : tie.Need-returns
 returns c = rw (lt-ltb _ _ (c .before .if1 .taken)) (c .clock-refused .ensures)
 
--- src/lib.rt:263:9
+-- src/lib.rt:322:9
 source-requires : tie.Need-source-requires
 source-requires c κs = search needs
 
--- src/lib.rt:262:15
+-- src/lib.rt:321:15
 calculate-with-loopback-requires : tie.Need-calculate-with-loopback-requires
 calculate-with-loopback-requires c κs = search needs
 
--- src/lib.rt:262:5
+-- src/lib.rt:321:5
 clock-out-requires : tie.Need-clock-out-requires
 clock-out-requires c κs = search needs
 
--- src/lib.rt:242:1
+-- src/lib.rt:301:1
 returns-2 : tie.Need-returns-2
 returns-2 c =
     let x = c .before .before .before .before .args in

@@ -1,29 +1,38 @@
--- The numbers are those of what the run promises. Assumes nothing.
+-- The start is tied to its script, so its run is the script's, in numbers. Assumes nothing.
+use denote.Ref.{now}
+use mathlib.Core.List.{[]}
+use native.Mathlib.Omega.{arith}
+use Rattle.qspi_calls.specs.Calls as call
+use Rattle.qspi_calls.proofs.Short.{no-values}
+use Rattle.qspi_calls.proofs.Promised as promise
+use Rattle.qspi_calls.proofs.LowLevelCalls as low
 use Rattle.qspi_abi.proofs.Outputs as outputs
 use borrow.Author.Needs.{needs}
 use Rattle.qspi_abi.proofs.qspi_enable_io_mode.Statement.{statement}
 use Rattle.qspi_abi.proofs.qspi_enable_io_mode.Tie as tie
 use Rattle.qspi_abi.proofs.qspi_enable_io_mode.Reads as reads
 use Rattle.qspi_abi.proofs.qspi_enable_io_mode.Lts as lts
-use Rattle.qspi_abi.proofs.ran_out.Reads as ran-out-reads
-use Rattle.qspi_runs.proofs.enable_io_mode.Reads as enable-io-mode-reads
+use Rattle.qspi_abi.proofs.command.Reads as command-reads
+use Rattle.qspi_calls.proofs.start.enable_io_mode.Reads as enable-io-mode-reads
 
--- src/lib.rt:372:13
+-- src/lib.rt:459:9
 enable-io-mode-requires : tie.Need-enable-io-mode-requires
 enable-io-mode-requires c κs = search needs
 
--- src/lib.rt:372:5
-ran-out-requires : tie.Need-ran-out-requires
-ran-out-requires c κs = search needs
+-- src/lib.rt:460:5
+command-requires : tie.Need-command-requires
+command-requires c κs = search needs
 
--- src/lib.rt:367:1
+-- src/lib.rt:454:1
 same-length : tie.Need-same-length
 same-length c = search needs
 
--- src/lib.rt:367:1
+-- src/lib.rt:454:1
 returns : tie.Need-returns
-returns c = (outputs.plain (c .ran-out .ensures) (c .before .before .before .enable-io-mode .ensures .0), c .before .before .before .enable-io-mode .ensures .1)
+returns c =
+    let x = c .before .before .before .before .before .before .before .args in
+    outputs.commanded (promise.met no-values (call.enableIoMode (x .dual-flash)) [] (now (x .replies)) (now (x .log)) [] (omega (arith, c .before .before .before .before .before .before .before .good)) (c .before .before .before .before .enable-io-mode .ensures) (low.enable-io-mode (x .dual-flash) (now (x .log)))) (c .before .before .command .ensures)
 
 pub qspi-enable-io-mode-spec : {M : Type 1} → statement M
 qspi-enable-io-mode-spec =
-    tie.close (tie.spec enable-io-mode-requires ran-out-requires same-length returns)
+    tie.close (tie.spec enable-io-mode-requires command-requires same-length returns)

@@ -1,29 +1,38 @@
--- The numbers are those of what the run promises. Assumes nothing.
+-- The start is tied to its script, so its run is the script's, in numbers. Assumes nothing.
+use denote.Ref.{now}
+use mathlib.Core.List.{[]}
+use native.Mathlib.Omega.{arith}
+use Rattle.qspi_calls.specs.Calls as call
+use Rattle.qspi_calls.proofs.Short.{no-values}
+use Rattle.qspi_calls.proofs.Promised as promise
+use Rattle.qspi_calls.proofs.Several as several
 use Rattle.qspi_abi.proofs.Outputs as outputs
 use borrow.Author.Needs.{needs}
 use Rattle.qspi_abi.proofs.qspi_erase_sector.Statement.{statement}
 use Rattle.qspi_abi.proofs.qspi_erase_sector.Tie as tie
 use Rattle.qspi_abi.proofs.qspi_erase_sector.Reads as reads
 use Rattle.qspi_abi.proofs.qspi_erase_sector.Lts as lts
-use Rattle.qspi_abi.proofs.ran_out.Reads as ran-out-reads
-use Rattle.qspi_runs.proofs.erase_sector.Reads as erase-sector-reads
+use Rattle.qspi_abi.proofs.command.Reads as command-reads
+use Rattle.qspi_calls.proofs.start.erase_sector.Reads as erase-sector-reads
 
--- src/lib.rt:445:13
+-- src/lib.rt:540:9
 erase-sector-requires : tie.Need-erase-sector-requires
 erase-sector-requires c κs = search needs
 
--- src/lib.rt:445:5
-ran-out-requires : tie.Need-ran-out-requires
-ran-out-requires c κs = search needs
+-- src/lib.rt:541:5
+command-requires : tie.Need-command-requires
+command-requires c κs = search needs
 
--- src/lib.rt:440:1
+-- src/lib.rt:535:1
 same-length : tie.Need-same-length
 same-length c = search needs
 
--- src/lib.rt:440:1
+-- src/lib.rt:535:1
 returns : tie.Need-returns
-returns c = (outputs.plain (c .ran-out .ensures) (c .before .before .before .erase-sector .ensures .0), c .before .before .before .erase-sector .ensures .1)
+returns c =
+    let x = c .before .before .before .before .before .before .before .args in
+    outputs.commanded (promise.met no-values (call.eraseSector (x .addr)) [] (now (x .replies)) (now (x .log)) [] (omega (arith, c .before .before .before .before .before .before .before .good)) (c .before .before .before .before .erase-sector .ensures) (several.erase-sector (x .addr) (now (x .log)))) (c .before .before .command .ensures)
 
 pub qspi-erase-sector-spec : {M : Type 1} → statement M
 qspi-erase-sector-spec =
-    tie.close (tie.spec erase-sector-requires ran-out-requires same-length returns)
+    tie.close (tie.spec erase-sector-requires command-requires same-length returns)

@@ -1,5 +1,12 @@
--- The numbers are those of what the run promises. Assumes nothing.
+-- The start is tied to its script, so its run is the script's, in numbers. Assumes nothing.
 use denote.Ref.{now}
+use mathlib.Core.List.{[]}
+use native.Mathlib.Omega.{arith}
+use Rattle.qspi_calls.specs.Calls as call
+use Rattle.qspi_calls.proofs.Short.{no-values}
+use Rattle.qspi_calls.proofs.Promised as promise
+use Rattle.qspi_calls.proofs.Several as several
+use Rattle.qspi_calls.specs.declared.start.Config.{Config}
 use Rattle.qspi_abi.proofs.Outputs as outputs
 use borrow.Author.Needs.{needs}
 use Rattle.qspi_abi.proofs.qspi_new.Statement.{statement}
@@ -7,31 +14,33 @@ use Rattle.qspi_abi.proofs.qspi_new.Tie as tie
 use Rattle.qspi_abi.proofs.qspi_new.Reads as reads
 use Rattle.qspi_abi.proofs.qspi_new.Lts as lts
 use Rattle.qspi_abi.proofs.codes.latency.Reads as latency-reads
-use Rattle.qspi_abi.proofs.ran_out.Reads as ran-out-reads
-use Rattle.qspi_runs.proofs.new.Reads as new-reads
+use Rattle.qspi_abi.proofs.command.Reads as command-reads
+use Rattle.qspi_calls.proofs.start.new.Reads as new-reads
 
--- src/lib.rt:349:25
+-- src/lib.rt:434:25
 latency-requires : tie.Need-latency-requires
 latency-requires c κs = search needs
 
--- src/lib.rt:352:13
+-- src/lib.rt:437:9
 new-requires : tie.Need-new-requires
 new-requires c κs = search needs
 
--- src/lib.rt:352:5
-ran-out-requires : tie.Need-ran-out-requires
-ran-out-requires c κs = search needs
+-- src/lib.rt:438:5
+command-requires : tie.Need-command-requires
+command-requires c κs = search needs
 
--- src/lib.rt:335:1
+-- src/lib.rt:420:1
 same-length : tie.Need-same-length
 same-length c = search needs
 
--- src/lib.rt:335:1
+-- src/lib.rt:420:1
 returns : tie.Need-returns
 returns c =
     let x = c .before .before .before .before .before .before .before .before .args in
-    outputs.new (x .set-quad-bit-if-necessary) (x .clear-write-protection) (now (x .log)) _ (now (x .replies)) (c .before .before .before .before .before .latency .ensures) (c .ran-out .ensures) (c .before .before .before .new .ensures)
+    let k : Config = record { «set_quad_bit_if_necessary» = x .set-quad-bit-if-necessary; «latency_config» = c .before .before .before .before .before .latency .result; «clear_write_protection» = x .clear-write-protection } in
+    let w = promise.met no-values (call.newCall k) [] (now (x .replies)) (now (x .log)) [] (omega (arith, c .before .before .before .before .before .before .before .before .good)) (c .before .before .before .before .new .ensures) (several.new-call k (now (x .log))) in
+    outputs.new (x .set-quad-bit-if-necessary) (x .clear-write-protection) (now (x .log)) _ (now (x .replies)) (c .before .before .before .before .before .latency .ensures) (outputs.commanded w (c .before .before .command .ensures))
 
 pub qspi-new-spec : {M : Type 1} → statement M
 qspi-new-spec =
-    tie.close (tie.spec latency-requires new-requires ran-out-requires same-length returns)
+    tie.close (tie.spec latency-requires new-requires command-requires same-length returns)

@@ -1,29 +1,38 @@
--- The numbers are those of what the run promises. Assumes nothing.
+-- The start is tied to its script, so its run is the script's, in numbers. Assumes nothing.
+use denote.Ref.{now}
+use mathlib.Core.List.{[]}
+use native.Mathlib.Omega.{arith}
+use Rattle.qspi_calls.specs.Calls as call
+use Rattle.qspi_calls.proofs.Short.{no-values}
+use Rattle.qspi_calls.proofs.Promised as promise
+use Rattle.qspi_calls.proofs.Several as several
 use Rattle.qspi_abi.proofs.Outputs as outputs
 use borrow.Author.Needs.{needs}
 use Rattle.qspi_abi.proofs.qspi_set_write_protection.Statement.{statement}
 use Rattle.qspi_abi.proofs.qspi_set_write_protection.Tie as tie
 use Rattle.qspi_abi.proofs.qspi_set_write_protection.Reads as reads
 use Rattle.qspi_abi.proofs.qspi_set_write_protection.Lts as lts
-use Rattle.qspi_abi.proofs.ran_out.Reads as ran-out-reads
-use Rattle.qspi_runs.proofs.set_write_protection.Reads as set-write-protection-reads
+use Rattle.qspi_abi.proofs.command.Reads as command-reads
+use Rattle.qspi_calls.proofs.start.set_write_protection.Reads as set-write-protection-reads
 
--- src/lib.rt:392:13
+-- src/lib.rt:481:9
 set-write-protection-requires : tie.Need-set-write-protection-requires
 set-write-protection-requires c κs = search needs
 
--- src/lib.rt:392:5
-ran-out-requires : tie.Need-ran-out-requires
-ran-out-requires c κs = search needs
+-- src/lib.rt:482:5
+command-requires : tie.Need-command-requires
+command-requires c κs = search needs
 
--- src/lib.rt:383:1
+-- src/lib.rt:472:1
 same-length : tie.Need-same-length
 same-length c = search needs
 
--- src/lib.rt:383:1
+-- src/lib.rt:472:1
 returns : tie.Need-returns
-returns c = (outputs.plain (c .ran-out .ensures) (c .before .before .before .set-write-protection .ensures .0), c .before .before .before .set-write-protection .ensures .1)
+returns c =
+    let x = c .before .before .before .before .before .before .before .args in
+    outputs.commanded (promise.met no-values (call.setWriteProtection (x .protection)) [] (now (x .replies)) (now (x .log)) [] (omega (arith, c .before .before .before .before .before .before .before .good)) (c .before .before .before .before .set-write-protection .ensures) (several.set-write-protection (x .protection) (now (x .log)))) (c .before .before .command .ensures)
 
 pub qspi-set-write-protection-spec : {M : Type 1} → statement M
 qspi-set-write-protection-spec =
-    tie.close (tie.spec set-write-protection-requires ran-out-requires same-length returns)
+    tie.close (tie.spec set-write-protection-requires command-requires same-length returns)

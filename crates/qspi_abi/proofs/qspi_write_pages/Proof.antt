@@ -8,19 +8,19 @@ use Rattle.qspi_abi.proofs.qspi_write_pages.Lts as lts
 use Rattle.power_cut.proofs.write_pages.Reads as write-pages-reads
 use Rattle.qspi_abi.proofs.pages_out.Reads as pages-out-reads
 
--- src/lib.rt:530:15
+-- src/lib.rt:634:15
 write-pages-requires : tie.Need-write-pages-requires
 write-pages-requires c κs = search needs
 
--- src/lib.rt:530:5
+-- src/lib.rt:634:5
 pages-out-requires : tie.Need-pages-out-requires
 pages-out-requires c κs = search needs
 
--- src/lib.rt:519:1
+-- src/lib.rt:623:1
 same-length : tie.Need-same-length
 same-length c = search needs
 
--- src/lib.rt:519:1
+-- src/lib.rt:623:1
 returns : tie.Need-returns
 returns c =
     let w = c .before .before .before .write-pages in

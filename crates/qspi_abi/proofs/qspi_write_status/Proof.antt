@@ -1,29 +1,38 @@
--- The numbers are those of what the run promises. Assumes nothing.
+-- The start is tied to its script, so its run is the script's, in numbers. Assumes nothing.
+use denote.Ref.{now}
+use mathlib.Core.List.{[]}
+use native.Mathlib.Omega.{arith}
+use Rattle.qspi_calls.specs.Calls as call
+use Rattle.qspi_calls.proofs.Short.{no-values}
+use Rattle.qspi_calls.proofs.Promised as promise
+use Rattle.qspi_calls.proofs.Several as several
 use Rattle.qspi_abi.proofs.Outputs as outputs
 use borrow.Author.Needs.{needs}
 use Rattle.qspi_abi.proofs.qspi_write_status.Statement.{statement}
 use Rattle.qspi_abi.proofs.qspi_write_status.Tie as tie
 use Rattle.qspi_abi.proofs.qspi_write_status.Reads as reads
 use Rattle.qspi_abi.proofs.qspi_write_status.Lts as lts
-use Rattle.qspi_abi.proofs.ran_out.Reads as ran-out-reads
-use Rattle.qspi_runs.proofs.write_status.Reads as write-status-reads
+use Rattle.qspi_abi.proofs.command.Reads as command-reads
+use Rattle.qspi_calls.proofs.start.write_status.Reads as write-status-reads
 
--- src/lib.rt:424:13
+-- src/lib.rt:517:9
 write-status-requires : tie.Need-write-status-requires
 write-status-requires c κs = search needs
 
--- src/lib.rt:424:5
-ran-out-requires : tie.Need-ran-out-requires
-ran-out-requires c κs = search needs
+-- src/lib.rt:518:5
+command-requires : tie.Need-command-requires
+command-requires c κs = search needs
 
--- src/lib.rt:419:1
+-- src/lib.rt:512:1
 same-length : tie.Need-same-length
 same-length c = search needs
 
--- src/lib.rt:419:1
+-- src/lib.rt:512:1
 returns : tie.Need-returns
-returns c = (outputs.plain (c .ran-out .ensures) (c .before .before .before .write-status .ensures .0), c .before .before .before .write-status .ensures .1)
+returns c =
+    let x = c .before .before .before .before .before .before .before .args in
+    outputs.commanded (promise.met no-values (call.writeStatus (x .sr)) [] (now (x .replies)) (now (x .log)) [] (omega (arith, c .before .before .before .before .before .before .before .good)) (c .before .before .before .before .write-status .ensures) (several.write-status (x .sr) (now (x .log)))) (c .before .before .command .ensures)
 
 pub qspi-write-status-spec : {M : Type 1} → statement M
 qspi-write-status-spec =
-    tie.close (tie.spec write-status-requires ran-out-requires same-length returns)
+    tie.close (tie.spec write-status-requires command-requires same-length returns)

@@ -6,11 +6,11 @@ use Rattle.qspi_abi.proofs.value_out.Reads as reads
 use Rattle.qspi_abi.proofs.value_out.Lts as lts
 use Rattle.qspi_script.proofs.Status.number.Reads as number-reads
 
--- src/lib.rt:116:17
+-- src/lib.rt:125:17
 number-requires : tie.Need-number-requires
 number-requires c κs = search needs
 
--- src/lib.rt:111:1
+-- src/lib.rt:120:1
 returns : tie.Need-returns
 returns c = simp (c .number .ensures)
 

@@ -69,23 +69,23 @@ enum-told-11 c = search needs
 enum-told-12 : tie.Need-enum-told-12
 enum-told-12 c = search needs
 
--- src/lib.rt:130:13
+-- src/lib.rt:119:13
 enum-told-13 : tie.Need-enum-told-13
 enum-told-13 c = search needs
 
--- src/lib.rt:130:13
+-- src/lib.rt:119:13
 put-requires-2 : tie.Need-put-requires-2
 put-requires-2 c κs = search needs
 
--- src/lib.rt:132:27
+-- src/lib.rt:121:27
 enum-told-14 : tie.Need-enum-told-14
 enum-told-14 c = search needs
 
--- src/lib.rt:133:29
+-- src/lib.rt:122:29
 enum-told-15 : tie.Need-enum-told-15
 enum-told-15 c = search needs
 
--- src/lib.rt:133:29
+-- src/lib.rt:122:29
 register-access-requires : tie.Need-register-access-requires
 register-access-requires c κs = search needs
 

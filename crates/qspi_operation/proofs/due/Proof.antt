@@ -9,27 +9,27 @@ use Rattle.qspi_operation.proofs.access.Reads as access-reads
 use Rattle.qspi_operation.proofs.is_going.Reads as is-going-reads
 use Rattle.qspi_operation.proofs.show.Reads as show-reads
 
--- src/lib.rt:155:8
+-- src/lib.rt:144:8
 is-going-requires : tie.Need-is-going-requires
 is-going-requires c κs = search needs
 
--- src/lib.rt:157:18
+-- src/lib.rt:146:18
 access-requires : tie.Need-access-requires
 access-requires c κs = search needs
 
--- src/lib.rt:157:13
+-- src/lib.rt:146:13
 show-requires : tie.Need-show-requires
 show-requires c κs = search needs
 
--- src/lib.rt:147:1
+-- src/lib.rt:136:1
 returns : tie.Need-returns
 returns c = simp (c .show .ensures, c .before .access .ensures, eq-eqb _ _ (c .before .before .if2 .taken), c .before .before .before .before .if1 .taken, ← c .before .before .before .before .before .is-going .ensures)
 
--- src/lib.rt:147:1
+-- src/lib.rt:136:1
 returns-2 : tie.Need-returns-2
 returns-2 c = simp (ne-eqb _ _ (c .if2 .left), c .before .before .if1 .taken, ← c .before .before .before .is-going .ensures)
 
--- src/lib.rt:147:1
+-- src/lib.rt:136:1
 returns-3 : tie.Need-returns-3
 returns-3 c = simp (c .if1 .left, ← c .before .is-going .ensures)
 

@@ -8,15 +8,15 @@ use Rattle.qspi_operation.proofs.has_room.Tie as tie
 use Rattle.qspi_operation.proofs.has_room.Reads as reads
 use Rattle.qspi_operation.proofs.has_room.Lts as lts
 
--- src/lib.rt:202:9
+-- src/lib.rt:191:9
 returns : tie.Need-returns
 returns c = sym (lt-leb (c .before .args .used + 2) (c .before .args .room) (omega arith))
 
--- src/lib.rt:198:1
+-- src/lib.rt:187:1
 returns-2 : tie.Need-returns-2
 returns-2 c = sym (le-leb (c .before .before .args .used + 2) (c .before .before .args .room) (omega arith))
 
--- src/lib.rt:198:1
+-- src/lib.rt:187:1
 returns-3 : tie.Need-returns-3
 returns-3 c = sym (lt-leb (c .before .before .args .used + 2) (c .before .before .args .room) (omega arith))
 

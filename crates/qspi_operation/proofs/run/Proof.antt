@@ -24,25 +24,25 @@ Inv-loop «data» buffer₀ log₀ replies o₀ answer₀ buffer log o answer =
 abbrev μ-loop : tie.MeasureT-loop
 μ-loop «data» buffer₀ log₀ replies o₀ answer₀ buffer log o answer = left (isGoing answer) (fuel o log)
 
--- src/lib.rt:396:5
+-- src/lib.rt:385:5
 loop-holds : tie.Need-loop-holds Inv-loop μ-loop
 loop-holds c = (refl, (refl, (refl, going-is _)))
 
--- src/lib.rt:396:11
+-- src/lib.rt:385:11
 is-going-requires : tie.Need-is-going-requires Inv-loop μ-loop
 is-going-requires c κs = search needs
 
--- src/lib.rt:397:13
+-- src/lib.rt:386:13
 transfer-requires : tie.Need-transfer-requires Inv-loop μ-loop
 transfer-requires c κs = c .before .before .before .before .loop .inv .1 .1 .1 (sym (c .before .before .before .is-going .ensures) ∙ c .before .before .if1 .taken)
 
--- src/lib.rt:526:5
+-- src/lib.rt:515:5
 loop-less : tie.Need-loop-less Inv-loop μ-loop
 loop-less c =
     let l = c .before .before .before .before .before .before .before .before .before .before .loop in
     less-left (isGoing (l .answer)) _ (fuel (l .o) (l .log)) (sym (c .before .before .before .before .before .before .before .before .before .is-going .ensures) ∙ c .before .before .before .before .before .before .before .before .if1 .taken) (c .before .before .before .before .before .transfer .ensures .fewer)
 
--- src/lib.rt:526:5
+-- src/lib.rt:515:5
 loop-again : tie.Need-loop-again Inv-loop μ-loop
 loop-again c =
     let x = c .before .before .before .before .before .before .before .before .before .before .before .before .before .before .before .args in
@@ -51,15 +51,15 @@ loop-again c =
     let g = sym (c .before .before .before .before .before .before .before .before .before .is-going .ensures) ∙ c .before .before .before .before .before .before .before .before .if1 .taken in
     (l .inv .0 ∙ same-run (fuel (l .o) (l .log)) (l .answer) (l .o) (now (x .«data»)) (now (x .replies)) (l .buffer) (l .log) g ∙ t .same, (t .long ∙ l .inv .1 .0, (t .wide ∙ l .inv .1 .1 .0, t .status)))
 
--- src/lib.rt:391:1
+-- src/lib.rt:380:1
 same-length : tie.Need-same-length Inv-loop μ-loop
 same-length c = search needs
 
--- src/lib.rt:391:1
+-- src/lib.rt:380:1
 same-length-2 : tie.Need-same-length-2 Inv-loop μ-loop
 same-length-2 c = search needs
 
--- src/lib.rt:391:1
+-- src/lib.rt:380:1
 returns : tie.Need-returns Inv-loop μ-loop
 returns c =
     let l = c .before .before .loop in

@@ -13,37 +13,37 @@ use Rattle.qspi_operation.proofs.pass.Reads as pass-reads
 use Rattle.qspi_operation.proofs.resolved.Reads as resolved-reads
 use Rattle.qspi_script.proofs.frame.Reads as frame-reads
 
--- src/lib.rt:446:8
+-- src/lib.rt:435:8
 is-going-requires : tie.Need-is-going-requires
 is-going-requires c κs = search needs
 
--- src/lib.rt:447:13
+-- src/lib.rt:436:13
 frame-requires : tie.Need-frame-requires
 frame-requires c κs = search needs
 
--- src/lib.rt:448:13
+-- src/lib.rt:437:13
 pass-requires : tie.Need-pass-requires
 pass-requires c κs = (c .before .before .frame .ensures, passes.going-is _ (sym (c .before .before .before .before .is-going .ensures) ∙ c .before .before .before .if1 .taken))
 
--- src/lib.rt:449:9
+-- src/lib.rt:438:9
 resolved-requires : tie.Need-resolved-requires
 resolved-requires c κs = search needs
 
--- src/lib.rt:433:1
+-- src/lib.rt:422:1
 same-length : tie.Need-same-length
 same-length c = search needs
 
--- src/lib.rt:433:1
+-- src/lib.rt:422:1
 same-length-2 : tie.Need-same-length-2
 same-length-2 c = search needs
 
--- src/lib.rt:433:1
+-- src/lib.rt:422:1
 returns : tie.Need-returns
 returns c =
     let x = c .before .before .before .before .before .before .before .before .before .before .before .before .before .before .before .args in
     passes.stepped (x .op) (now (x .«data»)) (now (x .buffer)) (now (x .log)) (replyOf (now (x .replies)) (x .at)) (passes.going-is _ (sym (c .before .before .before .before .before .before .before .before .before .before .is-going .ensures) ∙ c .before .before .before .before .before .before .before .before .before .if1 .taken)) (c .before .before .before .before .before .pass .result) (c .before .before .before .before .before .pass .ensures) (c .resolved .ensures)
 
--- src/lib.rt:433:1
+-- src/lib.rt:422:1
 returns-2 : tie.Need-returns-2
 returns-2 c =
     let x = c .before .before .before .before .before .before .args in

@@ -23,21 +23,21 @@ abbrev μ-loop : tie.MeasureT-loop
 μ-loop «data» buffer₀ log₀ replies job place frame wire₀ used₀ taken₀ how₀ buffer log wire used taken how =
     left (isOn how) (fuel (opAt job place (passedAt wire used taken how)) log)
 
--- src/lib.rt:481:9
+-- src/lib.rt:470:9
 frame-requires : tie.Need-frame-requires Inv-loop μ-loop
 frame-requires c κs = search needs
 
--- src/lib.rt:486:5
+-- src/lib.rt:475:5
 loop-holds : tie.Need-loop-holds Inv-loop μ-loop
 loop-holds c =
     let x = c .before .before .before .before .before .before .before .before .args in
     begins (x .op .job) (x .op .place) (x .op .wire) (x .op .used) (x .op .replies) (now (x .«data»)) (now (x .replies)) (now (x .buffer)) (now (x .log))
 
--- src/lib.rt:486:11
+-- src/lib.rt:475:11
 is-on-requires : tie.Need-is-on-requires Inv-loop μ-loop
 is-on-requires c κs = search needs
 
--- src/lib.rt:495:13
+-- src/lib.rt:484:13
 pass-requires : tie.Need-pass-requires Inv-loop μ-loop
 pass-requires c κs = (c .before .before .before .before .before .before .frame .ensures, refl)
 
@@ -49,27 +49,27 @@ passed c =
     let q = c .before .before .before .before .before .pass in
     passing (opAt (x .op .job) (x .op .place) (passedAt (x .op .wire) (x .op .used) (x .op .replies) On)) (x .op .job) (x .op .place) (l .wire) (l .used) (l .taken) (l .how) (now (x .«data»)) (now (x .replies)) (now (x .buffer)) (now (x .log)) (l .buffer) (l .log) (q .result) (q .last .1 .1 .1 .0) (q .last .1 .1 .1 .1 .0) (sym (c .before .before .before .before .before .before .before .before .before .is-on .ensures) ∙ c .before .before .before .before .before .before .before .before .if1 .taken) (l .inv) (q .ensures .0) (q .ensures .1 .0) (q .ensures .1 .1)
 
--- src/lib.rt:486:5
+-- src/lib.rt:475:5
 loop-less : tie.Need-loop-less Inv-loop μ-loop
 loop-less c = passed c .less
 
--- src/lib.rt:486:5
+-- src/lib.rt:475:5
 loop-again : tie.Need-loop-again Inv-loop μ-loop
 loop-again c = passed c .way
 
--- src/lib.rt:517:5
+-- src/lib.rt:506:5
 resolved-requires : tie.Need-resolved-requires Inv-loop μ-loop
 resolved-requires c κs = search needs
 
--- src/lib.rt:475:1
+-- src/lib.rt:464:1
 same-length : tie.Need-same-length Inv-loop μ-loop
 same-length c = search needs
 
--- src/lib.rt:475:1
+-- src/lib.rt:464:1
 same-length-2 : tie.Need-same-length-2 Inv-loop μ-loop
 same-length-2 c = search needs
 
--- src/lib.rt:475:1
+-- src/lib.rt:464:1
 returns : tie.Need-returns Inv-loop μ-loop
 returns c =
     let x = c .before .before .before .before .before .before .before .before .before .before .before .before .args in

@@ -3,23 +3,23 @@ use borrow.Author.Needs.{needs}
 use Rattle.qspi_driver.proofs.state.answer_so_far.Statement.{statement}
 use Rattle.qspi_driver.proofs.state.answer_so_far.Tie as tie
 
--- src/state.rt:111:21
+-- src/state.rt:112:21
 programmed-requires : tie.Need-programmed-requires
 programmed-requires c κs = search needs
 
--- src/state.rt:112:16
+-- src/state.rt:113:16
 kept-requires : tie.Need-kept-requires
 kept-requires c κs = search needs
 
--- src/state.rt:113:14
+-- src/state.rt:114:14
 kept-requires-2 : tie.Need-kept-requires-2
 kept-requires-2 c κs = search needs
 
--- src/state.rt:114:15
+-- src/state.rt:115:15
 kept-requires-3 : tie.Need-kept-requires-3
 kept-requires-3 c κs = search needs
 
--- src/state.rt:101:1
+-- src/state.rt:102:1
 returns : tie.Need-returns
 returns c = rw (c .before .before .before .programmed .ensures, c .before .before .kept .ensures, c .before .kept2 .ensures, c .kept3 .ensures)
 

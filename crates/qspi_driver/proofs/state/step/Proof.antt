@@ -5,23 +5,23 @@ use borrow.Author.Needs.{needs}
 use Rattle.qspi_driver.proofs.state.step.Statement.{statement}
 use Rattle.qspi_driver.proofs.state.step.Tie as tie
 
--- src/state.rt:134:13
+-- src/state.rt:135:13
 step-requires : tie.Need-step-requires
 step-requires c κs = search needs
 
--- src/state.rt:134:5
+-- src/state.rt:135:5
 holding-requires : tie.Need-holding-requires
 holding-requires c κs = search needs
 
--- src/state.rt:131:1
+-- src/state.rt:132:1
 same-length : tie.Need-same-length
 same-length c = search needs
 
--- src/state.rt:131:1
+-- src/state.rt:132:1
 same-length-2 : tie.Need-same-length-2
 same-length-2 c = search needs
 
--- src/state.rt:131:1
+-- src/state.rt:132:1
 returns : tie.Need-returns
 returns c = let s = c .before .before .before .before .before .step .ensures in (c .holding .ensures ∙ ap actedBy (s .0), s .1 .1, s .1 .0)
 

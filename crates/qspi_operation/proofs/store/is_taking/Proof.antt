@@ -1,129 +1,52 @@
--- The search closes each need. Assumes nothing.
+-- No other phase takes a reply. Assumes nothing.
+use Prim.Native.Nat.{ℕ}
+use mathlib.Core.Bool.{false}
+use mathlib.Core.List.{List, [], _∷_}
+use mathlib.Core.Path.{_≡_, refl}
+use denote.Enum.Declared.{tagOf}
+use types.Run.{OneOf, miss}
 use borrow.Author.Needs.{needs}
+use Rattle.qspi_transfer.proofs.Phase as phase
+use Rattle.qspi_transfer.specs.declared.Phase.{Phase}
+use Rattle.qspi_transfer.specs.declared.Phase.the-variants.{DrainStatus, DrainData, OpenRead, OpenWrite, Enable, Send, StartRead, StartWrite, Wait, WaitAgain, Take, CloseRead, CloseWrite, Disable, Registers}
+use Rattle.qspi_operation.specs.Store.{isTaking}
 use Rattle.qspi_operation.proofs.store.is_taking.Statement.{statement}
 use Rattle.qspi_operation.proofs.store.is_taking.Tie as tie
+use Rattle.qspi_operation.proofs.store.is_taking.Reads as reads
+use Rattle.qspi_operation.proofs.store.is_taking.Lts as lts
 
+-- the tags of the other variants
+abbrev others : List ℕ
+others = 0 ∷ 1 ∷ 2 ∷ 3 ∷ 4 ∷ 5 ∷ 6 ∷ 7 ∷ 8 ∷ 9 ∷ 11 ∷ 12 ∷ 13 ∷ 14 ∷ []
+
+not-taking : (x : Phase) → OneOf others (tagOf phase.the-type x) → false ≡ isTaking x
+not-taking DrainStatus h = refl
+not-taking DrainData h = refl
+not-taking OpenRead h = refl
+not-taking OpenWrite h = refl
+not-taking Enable h = refl
+not-taking Send h = refl
+not-taking StartRead h = refl
+not-taking StartWrite h = refl
+not-taking Wait h = refl
+not-taking WaitAgain h = refl
+not-taking Take h = absurd (miss others 10 tt h)
+not-taking CloseRead h = refl
+not-taking CloseWrite h = refl
+not-taking Disable h = refl
+not-taking Registers h = refl
+
+-- src/store.rt:49:9
 enum-told : tie.Need-enum-told
 enum-told c = search needs
 
-enum-told-2 : tie.Need-enum-told-2
-enum-told-2 c = search needs
-
-enum-told-3 : tie.Need-enum-told-3
-enum-told-3 c = search needs
-
-enum-told-4 : tie.Need-enum-told-4
-enum-told-4 c = search needs
-
-enum-told-5 : tie.Need-enum-told-5
-enum-told-5 c = search needs
-
-enum-told-6 : tie.Need-enum-told-6
-enum-told-6 c = search needs
-
-enum-told-7 : tie.Need-enum-told-7
-enum-told-7 c = search needs
-
-enum-told-8 : tie.Need-enum-told-8
-enum-told-8 c = search needs
-
-enum-told-9 : tie.Need-enum-told-9
-enum-told-9 c = search needs
-
-enum-told-10 : tie.Need-enum-told-10
-enum-told-10 c = search needs
-
-enum-told-11 : tie.Need-enum-told-11
-enum-told-11 c = search needs
-
-enum-told-12 : tie.Need-enum-told-12
-enum-told-12 c = search needs
-
-enum-told-13 : tie.Need-enum-told-13
-enum-told-13 c = search needs
-
-enum-told-14 : tie.Need-enum-told-14
-enum-told-14 c = search needs
-
-enum-told-15 : tie.Need-enum-told-15
-enum-told-15 c = search needs
-
+-- src/store.rt:45:1
 returns : tie.Need-returns
 returns c = search needs
 
+-- src/store.rt:45:1
 returns-2 : tie.Need-returns-2
-returns-2 c = search needs
-
-returns-3 : tie.Need-returns-3
-returns-3 c = search needs
-
-returns-4 : tie.Need-returns-4
-returns-4 c = search needs
-
-returns-5 : tie.Need-returns-5
-returns-5 c = search needs
-
-returns-6 : tie.Need-returns-6
-returns-6 c = search needs
-
-returns-7 : tie.Need-returns-7
-returns-7 c = search needs
-
-returns-8 : tie.Need-returns-8
-returns-8 c = search needs
-
-returns-9 : tie.Need-returns-9
-returns-9 c = search needs
-
-returns-10 : tie.Need-returns-10
-returns-10 c = search needs
-
-returns-11 : tie.Need-returns-11
-returns-11 c = search needs
-
-returns-12 : tie.Need-returns-12
-returns-12 c = search needs
-
-returns-13 : tie.Need-returns-13
-returns-13 c = search needs
-
-returns-14 : tie.Need-returns-14
-returns-14 c = search needs
-
-returns-15 : tie.Need-returns-15
-returns-15 c = search needs
+returns-2 c = not-taking (c .before .args .phase) (c .match .keys2)
 
 pub is-taking-spec : {M : Type 1} → statement M
-is-taking-spec =
-    tie.close
-    (tie.spec
-    enum-told
-    enum-told-2
-    enum-told-3
-    enum-told-4
-    enum-told-5
-    enum-told-6
-    enum-told-7
-    enum-told-8
-    enum-told-9
-    enum-told-10
-    enum-told-11
-    enum-told-12
-    enum-told-13
-    enum-told-14
-    enum-told-15
-    returns
-    returns-2
-    returns-3
-    returns-4
-    returns-5
-    returns-6
-    returns-7
-    returns-8
-    returns-9
-    returns-10
-    returns-11
-    returns-12
-    returns-13
-    returns-14
-    returns-15)
+is-taking-spec = tie.close (tie.spec enum-told returns returns-2)

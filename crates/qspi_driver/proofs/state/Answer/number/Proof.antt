@@ -3,23 +3,23 @@ use borrow.Author.Needs.{needs}
 use Rattle.qspi_driver.proofs.state.Answer.number.Statement.{statement}
 use Rattle.qspi_driver.proofs.state.Answer.number.Tie as tie
 
--- src/state.rt:42:27
+-- src/state.rt:43:27
 enum-known-self : tie.Need-enum-known-self
 enum-known-self c = search needs
 
--- src/state.rt:42:49
+-- src/state.rt:43:49
 number-of-requires : tie.Need-number-of-requires
 number-of-requires c κs = search needs
 
--- src/state.rt:43:29
+-- src/state.rt:44:29
 enum-told : tie.Need-enum-told
 enum-told c = search needs
 
--- src/state.rt:38:5
+-- src/state.rt:39:5
 returns : tie.Need-returns
 returns c = simp (c .number-of .ensures, c .before .before .self .given .1)
 
--- src/state.rt:38:5
+-- src/state.rt:39:5
 returns-2 : tie.Need-returns-2
 returns-2 c = search needs
 

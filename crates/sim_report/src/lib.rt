@@ -1,0 +1,448 @@
+// What is printed of a run: the log; the answer, or the cut; the used counts; `programmed` of
+// `write_pages`; `finished` of this and `program`; `in doubt` of these and `erase_sector`; the register,
+// id or bytes of a read that is done; and the pages that changed. Of `cut all`, one line a cut.
+ghost use Prim.Native.Nat.{_≤_, _<_};
+use printing::decimal;
+use printing::hex;
+use printing::text;
+use qspi_script::Status;
+use zedboard_bsp::qspi_spansion::words::bytes_of;
+use zedboard_bsp::qspi_spansion::words::top_byte;
+
+pub mod calls;
+
+// Words of log that are rendered at once.
+const PORTION: usize = 1024;
+
+const PAGE: usize = 256;
+
+// No cut is asked for.
+pub const NEVER: usize = 0x1_0000_0000;
+
+// The call, by its place among `calls`; its address; where the part of the array begins that is lent; and
+// after how many accesses the power fails.
+pub struct Case {
+    pub call: usize,
+    pub address: u32,
+    pub base: u32,
+    pub cut: usize,
+}
+
+// How a run ended, as far as it is printed.
+pub struct Ended {
+    pub answer: Status,
+    pub used: usize,
+    pub replies: usize,
+    pub programmed: usize,
+    // The device could not go on.
+    pub refused: bool,
+    // The erase command is out, and the status loop has not ended.
+    pub erasing: bool,
+    // The last three replies.
+    pub older: u32,
+    pub old: u32,
+    pub last: u32,
+}
+
+// A part of the flash, if there is one.
+pub struct Spot {
+    pub there: bool,
+    pub address: u32,
+    pub length: u32,
+}
+
+// What the log shows: the chunks finished, their bytes, and where the flash may hold anything.
+pub struct Shown {
+    pub finished: usize,
+    pub bytes: usize,
+    pub doubt: Spot,
+}
+
+// ---- the log
+
+fn portion(left: usize) -> usize
+    requires { ⌜ 0 < left ⌝ }
+    ensures within { λ r. ⌜ (0 < r) × (r ≤ left) ⌝ }
+{
+    if left < PORTION { left } else { PORTION }
+}
+
+fn accesses(log: &[u32]) {
+    let mut at = 0;
+    while at < log.len() {
+        let end = at + portion(log.len() - at);
+        rendered(&log[at..end]);
+        at = end;
+    }
+}
+
+fn rendered(log: &[u32]) {
+    let mut lines = [0u8; 7200];
+    let rendered = access_log::render_words(log, 0, &mut lines);
+    let len = rendered.len;
+    text(&lines[..len]);
+}
+
+// As much of the log as was used.
+fn front(log: &[u32], used: usize) -> &[u32] {
+    if used <= log.len() {
+        &log[0..used]
+    } else {
+        log
+    }
+}
+
+// ---- the end
+
+fn counted(before: &[u8], n: usize, after: &[u8]) {
+    decimal(before, n);
+    text(after);
+}
+
+fn answer(status: Status) {
+    text(b"answer ");
+    printing::answer(status.number());
+    text(b"\n");
+}
+
+fn is_done(status: Status) -> bool {
+    if let Status::Done = status {
+        true
+    } else {
+        false
+    }
+}
+
+// The answer, or the cut in its place.
+fn end(cut: usize, answered: Status, made: usize) {
+    if cut == made {
+        return counted(b"cut after ", made, b" accesses\n");
+    }
+    if cut < NEVER {
+        counted(b"ended after ", made, b" accesses, before the cut\n");
+    }
+    answer(answered)
+}
+
+// Where the device could not go on.
+pub fn refused(used: usize) {
+    counted(
+        b"the device could not go on after ",
+        used / 2,
+        b" accesses\n",
+    );
+}
+
+// ---- the chunks
+
+fn nowhere() -> Spot {
+    Spot {
+        there: false,
+        address: 0,
+        length: 0,
+    }
+}
+
+// The log tells of a page program's chunk, and where an erase stands of its sector.
+fn known(address: u32, is_erasing: bool, seen: Shown) -> Shown {
+    let chunk = seen.doubt;
+    let sector = Spot {
+        there: true,
+        address,
+        length: 0x1_0000,
+    };
+    Shown {
+        finished: seen.finished,
+        bytes: seen.bytes,
+        doubt: if is_erasing { sector } else { chunk },
+    }
+}
+
+fn length(length: u32) {
+    if length < 0x100 {
+        hex(b" ", length, 2)
+    } else {
+        hex(b" ", length, 5)
+    }
+}
+
+fn in_doubt(name: &[u8], none: &[u8], doubt: Spot) {
+    if !doubt.there {
+        return text(none);
+    }
+    address(name, doubt.address);
+    length(doubt.length)
+}
+
+fn programs(call: usize) -> bool {
+    call == calls::PROGRAM || call == calls::WRITE_PAGES
+}
+
+fn works(call: usize) -> bool {
+    programs(call) || call == calls::ERASE_SECTOR
+}
+
+fn chunks(call: usize, programmed: usize, shown: Shown) {
+    if call == calls::WRITE_PAGES {
+        counted(b"programmed ", programmed, b"\n");
+    }
+    if programs(call) {
+        decimal(b"finished ", shown.finished);
+        counted(b", bytes ", shown.bytes, b"\n");
+    }
+    if works(call) {
+        in_doubt(b"in doubt ", b"in doubt none", shown.doubt);
+        text(b"\n");
+    }
+}
+
+// ---- bytes
+
+// An address of the flash has six digits. Reads take greater ones too.
+fn address(name: &[u8], address: u32) {
+    if address < 0x100_0000 {
+        hex(name, address, 6)
+    } else {
+        hex(name, address, 8)
+    }
+}
+
+fn octet(byte: u8) {
+    hex(b" ", byte as u32, 2);
+}
+
+fn lies_in(doubt: Spot, address: u32) -> bool {
+    if !doubt.there {
+        return false;
+    }
+    if address < doubt.address {
+        return false;
+    }
+    address - doubt.address < doubt.length
+}
+
+// A byte, with its address where it begins a line.
+fn cell(name: &[u8], byte: u8, place: u32, at: usize, doubt: Spot) {
+    if at % 16 == 0 {
+        address(name, place);
+    }
+    if lies_in(doubt, place) {
+        text(b" ??")
+    } else {
+        octet(byte)
+    }
+}
+
+fn row_end(at: usize, len: usize) {
+    let next = std::num::wrapping_add_usize(at, 1);
+    if next == len || next % 16 == 0 {
+        text(b"\n");
+    }
+}
+
+fn further(address: u32, at: usize) -> u32 {
+    std::num::wrapping_add_u32(address, (at % 0x1_0000_0000) as u32)
+}
+
+// Bytes, sixteen a line.
+fn rows(name: &[u8], bytes: &[u8], address: u32, doubt: Spot) {
+    let mut i = 0;
+    while i < bytes.len() {
+        cell(name, bytes[i], further(address, i), i, doubt);
+        row_end(i, bytes.len());
+        i += 1;
+    }
+}
+
+// ---- what was read
+
+fn register(reply: u32) {
+    text(b"register");
+    octet(top_byte(reply));
+    text(b"\n");
+}
+
+fn octets(bytes: &[u8]) {
+    let mut i = 0;
+    while i < bytes.len() {
+        octet(bytes[i]);
+        i += 1;
+    }
+}
+
+// Three bytes of a reply, behind the one that came in while the command went out.
+fn id(reply: u32) {
+    let bytes = bytes_of(reply);
+    text(b"id");
+    octets(&bytes[1..]);
+}
+
+// The id of one reply, or of three.
+fn read_id(is_long: bool, older: u32, old: u32, last: u32) {
+    if is_long {
+        id(older);
+        octets(&bytes_of(old));
+        octet(bytes_of(last)[0]);
+    } else {
+        id(last);
+    }
+    text(b"\n");
+}
+
+// What a call that is done has read. Calls go by their places in the table: reads of registers, of ids, of
+// the array; any other has no buffer, and nothing is printed.
+fn value(case: Case, ended: Ended, buffer: &[u8]) {
+    let call = case.call;
+    let answer = ended.answer;
+    if !is_done(answer) {
+        return;
+    }
+    match call {
+        4..=5 => register(ended.last),
+        6..=7 => read_id(
+            call == calls::READ_RDID_EXTENDED,
+            ended.older,
+            ended.old,
+            ended.last,
+        ),
+        _ => rows(b"read ", buffer, case.address, nowhere()),
+    }
+}
+
+// ---- pages
+
+fn touches(doubt: Spot, address: u32) -> bool {
+    if !doubt.there {
+        return false;
+    }
+    let page = address as usize;
+    let from = doubt.address as usize;
+    if page + PAGE <= from {
+        return false;
+    }
+    page < from + doubt.length as usize
+}
+
+fn byte_at(s: &[u8], at: usize) -> u8 {
+    if at < s.len() { s[at] } else { 0 }
+}
+
+fn is_unchanged(before: &[u8], after: &[u8]) -> bool {
+    let mut i = 0;
+    while i < after.len() {
+        if after[i] != byte_at(before, i) {
+            return false;
+        }
+        i += 1;
+    }
+    true
+}
+
+// The page at a place, where there is one.
+fn page_in(s: &[u8], from: usize) -> &[u8] {
+    if from <= s.len() {
+        if PAGE <= s.len() - from {
+            return &s[from..from + PAGE];
+        }
+    }
+    &s[0..0]
+}
+
+// 1 for a page that changed or may have.
+fn page(before: &[u8], after: &[u8], place: u32, doubt: Spot, is_shown: bool) -> usize {
+    if is_unchanged(before, after) {
+        if !touches(doubt, place) {
+            return 0;
+        }
+    }
+    if is_shown {
+        address(b"page ", place);
+        text(b"\n");
+        rows(b"", after, place, doubt);
+    }
+    1
+}
+
+fn page_at(
+    before: &[u8],
+    array: &[u8],
+    base: u32,
+    from: usize,
+    doubt: Spot,
+    is_shown: bool,
+) -> usize {
+    page(
+        page_in(before, from),
+        page_in(array, from),
+        further(base, from),
+        doubt,
+        is_shown,
+    )
+}
+
+// The pages that changed, counted.
+fn pages(before: &[u8], array: &[u8], base: u32, doubt: Spot, is_shown: bool) -> usize {
+    let mut count: usize = 0;
+    let mut n = 0;
+    while n < array.len() / PAGE {
+        let one = page_at(before, array, base, n * PAGE, doubt, is_shown);
+        count = std::num::wrapping_add_usize(count, one);
+        n += 1;
+    }
+    count
+}
+
+// The pages of a sector in doubt are not printed: nothing is known of any byte.
+fn changes(before: &[u8], array: &[u8], base: u32, doubt: Spot) {
+    let is_shown = doubt.length as usize <= PAGE;
+    if pages(before, array, base, doubt, is_shown) == 0 {
+        text(b"no page changed\n");
+    }
+}
+
+// ---- a run, and a line of `cut all`
+
+pub fn whole(
+    case: Case,
+    ended: Ended,
+    seen: Shown,
+    log: &[u32],
+    buffer: &[u8],
+    before: &[u8],
+    array: &[u8],
+) {
+    let shown = known(case.address, ended.erasing, seen);
+    let answer = ended.answer;
+    accesses(front(log, ended.used));
+    if ended.refused {
+        refused(ended.used);
+    } else {
+        end(case.cut, answer, ended.used / 2);
+    }
+    decimal(b"used log words ", ended.used);
+    counted(b", replies ", ended.replies, b"\n");
+    chunks(case.call, ended.programmed, shown);
+    value(case, ended, buffer);
+    changes(before, array, case.base, shown.doubt);
+}
+
+fn chunks_in_line(call: usize, shown: Shown) {
+    if programs(call) {
+        decimal(b" finished ", shown.finished);
+        decimal(b" bytes ", shown.bytes);
+    }
+    if works(call) {
+        in_doubt(b" doubt ", b" doubt -", shown.doubt);
+    }
+}
+
+pub fn cut_line(case: Case, ended: Ended, seen: Shown, before: &[u8], array: &[u8]) {
+    let shown = known(case.address, ended.erasing, seen);
+    decimal(b"", ended.used / 2);
+    chunks_in_line(case.call, shown);
+    decimal(
+        b" pages ",
+        pages(before, array, case.base, shown.doubt, false),
+    );
+    text(b"\n");
+}
