@@ -36,7 +36,7 @@ handed s = record { answer = s .answer; used = s .op .used; replies = s .op .rep
 abbrev pub ended : Run → Ran
 ended e = record { answer = e .answer; used = e .op .used; replies = e .op .replies }
 
--- a run of the code by counters, but for a buffer that is not lent: for the contracts of the private functions that the calls share
+-- a run of the code by counters, but for a buffer that is not lent: for the contract of `run::command`, which serves the crates above
 pub record Ended (s : Stepped) (log : List ℕ) (e : Run) : Type 0 where
   pub op : s .op ≡ e .op
   pub answer : s .answer ≡ e .answer

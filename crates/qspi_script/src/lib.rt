@@ -333,22 +333,10 @@ pub fn due_word(job: Job, place: Place, sent: u32, data: &[u8]) -> u32
 fn status_of(stage: Stage) -> Status
     ensures status { λ r. ⌜ r ≡ statusOf stage ⌝ }
 {
-    match stage {
-        Stage::Enable => Status::Going,
-        Stage::Disable => Status::Going,
-        Stage::Clear => Status::Going,
-        Stage::ReadStatus => Status::Going,
-        Stage::ReadConfig => Status::Going,
-        Stage::WriteStatus => Status::Going,
-        Stage::WriteRegisters => Status::Going,
-        Stage::ReadId => Status::Going,
-        Stage::ReadLongId => Status::Going,
-        Stage::Erase => Status::Going,
-        Stage::Program => Status::Going,
-        Stage::Poll => Status::Going,
-        Stage::Read => Status::Going,
-        Stage::Registers => Status::Going,
-        Stage::End => Status::Done,
+    if let Stage::End = stage {
+        Status::Done
+    } else {
+        Status::Going
     }
 }
 

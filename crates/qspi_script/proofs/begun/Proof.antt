@@ -7,11 +7,11 @@ use Rattle.qspi_script.proofs.begun.Reads as reads
 use Rattle.qspi_script.proofs.begun.Lts as lts
 use Rattle.qspi_script.proofs.status_of.Reads as status-of-reads
 
--- src/lib.rt:356:9
+-- src/lib.rt:344:9
 status-of-requires : tie.Need-status-of-requires
 status-of-requires c κs = search needs
 
--- src/lib.rt:353:1
+-- src/lib.rt:341:1
 returns : tie.Need-returns
 returns c = simp (c .status-of .ensures)
 

@@ -9,47 +9,47 @@ use Rattle.qspi_script.proofs.begun.Reads as begun-reads
 use Rattle.qspi_script.proofs.ended.Reads as ended-reads
 use Rattle.qspi_script.proofs.with_registers.Reads as with-registers-reads
 
--- src/lib.rt:511:41
+-- src/lib.rt:499:41
 enum-told : tie.Need-enum-told
 enum-told c = search needs
 
--- src/lib.rt:511:28
+-- src/lib.rt:499:28
 ended-requires : tie.Need-ended-requires
 ended-requires c κs = search needs
 
--- src/lib.rt:512:37
+-- src/lib.rt:500:37
 enum-told-2 : tie.Need-enum-told-2
 enum-told-2 c = search needs
 
--- src/lib.rt:512:37
+-- src/lib.rt:500:37
 with-registers-requires : tie.Need-with-registers-requires
 with-registers-requires c κs = search needs
 
--- src/lib.rt:512:31
+-- src/lib.rt:500:31
 begun-requires : tie.Need-begun-requires
 begun-requires c κs = search needs
 
--- src/lib.rt:513:35
+-- src/lib.rt:501:35
 enum-told-3 : tie.Need-enum-told-3
 enum-told-3 c = search needs
 
--- src/lib.rt:513:35
+-- src/lib.rt:501:35
 with-registers-requires-2 : tie.Need-with-registers-requires-2
 with-registers-requires-2 c κs = search needs
 
--- src/lib.rt:513:29
+-- src/lib.rt:501:29
 begun-requires-2 : tie.Need-begun-requires-2
 begun-requires-2 c κs = search needs
 
--- src/lib.rt:504:1
+-- src/lib.rt:492:1
 returns : tie.Need-returns
 returns c = simp (c .ended .ensures, c .before .enum-told .given .1)
 
--- src/lib.rt:504:1
+-- src/lib.rt:492:1
 returns-2 : tie.Need-returns-2
 returns-2 c = simp (c .begun .ensures, c .before .with-registers .ensures, c .before .before .enum-told2 .given .1)
 
--- src/lib.rt:504:1
+-- src/lib.rt:492:1
 returns-3 : tie.Need-returns-3
 returns-3 c = simp (c .begun2 .ensures, c .before .with-registers2 .ensures, c .before .before .enum-told3 .given .1)
 

@@ -12,35 +12,35 @@ use Rattle.zedboard_bsp.proofs.qspi_spansion.registers.configured_cr.Reads as c
 use Rattle.zedboard_bsp.proofs.qspi_spansion.registers.configured_sr.Reads as configured-sr-reads
 use Rattle.zedboard_bsp.proofs.qspi_spansion.registers.update_needed.Reads as update-needed-reads
 
--- src/lib.rt:469:8
+-- src/lib.rt:457:8
 update-needed-requires : tie.Need-update-needed-requires
 update-needed-requires c κs = search needs
 
--- src/lib.rt:472:13
+-- src/lib.rt:460:13
 configured-sr-requires : tie.Need-configured-sr-requires
 configured-sr-requires c κs = search needs
 
--- src/lib.rt:473:13
+-- src/lib.rt:461:13
 configured-cr-requires : tie.Need-configured-cr-requires
 configured-cr-requires c κs = search needs
 
--- src/lib.rt:470:13
+-- src/lib.rt:458:13
 with-registers-requires : tie.Need-with-registers-requires
 with-registers-requires c κs = search needs
 
--- src/lib.rt:475:9
+-- src/lib.rt:463:9
 begun-requires : tie.Need-begun-requires
 begun-requires c κs = search needs
 
--- src/lib.rt:477:9
+-- src/lib.rt:465:9
 ended-requires : tie.Need-ended-requires
 ended-requires c κs = search needs
 
--- src/lib.rt:461:1
+-- src/lib.rt:449:1
 returns : tie.Need-returns
 returns c = simp (c .begun .ensures, c .before .with-registers .ensures, c .before .before .configured-cr .ensures, c .before .before .before .configured-sr .ensures, c .before .before .before .before .if1 .taken, ← c .before .before .before .before .before .update-needed .ensures)
 
--- src/lib.rt:461:1
+-- src/lib.rt:449:1
 returns-2 : tie.Need-returns-2
 returns-2 c = simp (c .ended .ensures, c .before .if1 .left, ← c .before .before .update-needed .ensures)
 

@@ -10,51 +10,51 @@ use Rattle.qspi_script.proofs.chunk_address.Reads as chunk-address-read
 use Rattle.qspi_script.proofs.ended.Reads as ended-reads
 use Rattle.qspi_script.proofs.page_chunk.Reads as page-chunk-reads
 
--- src/lib.rt:457:9
+-- src/lib.rt:445:9
 page-chunk-requires : tie.Need-page-chunk-requires
 page-chunk-requires c κs = search needs
 
--- src/lib.rt:466:9
+-- src/lib.rt:454:9
 ended-requires : tie.Need-ended-requires
 ended-requires c κs = search needs
 
--- src/lib.rt:466:9
+-- src/lib.rt:454:9
 returns : tie.Need-returns
 returns c = simp (c .ended .ensures, eq-eqb _ _ (c .before .if1 .taken), ← c .before .before .page-chunk .ensures)
 
--- src/lib.rt:469:9
+-- src/lib.rt:457:9
 ended-requires-2 : tie.Need-ended-requires-2
 ended-requires-2 c κs = search needs
 
--- src/lib.rt:469:9
+-- src/lib.rt:457:9
 returns-2 : tie.Need-returns-2
 returns-2 c = simp (c .ended2 .ensures, ne-eqb _ _ (c .before .if2 .taken), ne-eqb _ _ (c .before .before .if1 .left), ← c .before .before .before .page-chunk .ensures)
 
--- src/lib.rt:471:14
+-- src/lib.rt:459:14
 chunk-address-requires : tie.Need-chunk-address-requires
 chunk-address-requires c κs = search needs
 
--- src/lib.rt:471:47
+-- src/lib.rt:459:47
 cast-if3 : tie.Need-cast-if3
 cast-if3 c = search needs
 
--- src/lib.rt:471:14
+-- src/lib.rt:459:14
 add-if3 : tie.Need-add-if3
 add-if3 c = search needs
 
--- src/lib.rt:472:9
+-- src/lib.rt:460:9
 ended-requires-3 : tie.Need-ended-requires-3
 ended-requires-3 c κs = search needs
 
--- src/lib.rt:472:9
+-- src/lib.rt:460:9
 returns-3 : tie.Need-returns-3
 returns-3 c = simp (c .ended3 .ensures, lt-ltb _ _ (c .before .if3 .taken), ← c .before .before .chunk-address .ensures, eq-eqb _ _ (c .before .before .before .if2 .left), ne-eqb _ _ (c .before .before .before .before .if1 .left), ← c .before .before .before .before .before .page-chunk .ensures)
 
--- src/lib.rt:474:5
+-- src/lib.rt:462:5
 begun-requires : tie.Need-begun-requires
 begun-requires c κs = search needs
 
--- src/lib.rt:453:1
+-- src/lib.rt:441:1
 returns-4 : tie.Need-returns-4
 returns-4 c = simp (c .begun .ensures, le-ltb _ _ (c .before .if3 .left), ← c .before .before .chunk-address .ensures, eq-eqb _ _ (c .before .before .before .if2 .left), ne-eqb _ _ (c .before .before .before .before .if1 .left), ← c .before .before .before .before .before .page-chunk .ensures)
 

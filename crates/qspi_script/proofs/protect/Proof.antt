@@ -9,19 +9,19 @@ use Rattle.qspi_script.proofs.begun.Reads as begun-reads
 use Rattle.qspi_script.proofs.with_registers.Reads as with-registers-reads
 use Rattle.zedboard_bsp.proofs.qspi_spansion.registers.protected.Reads as protected-reads
 
--- src/lib.rt:485:38
+-- src/lib.rt:473:38
 protected-requires : tie.Need-protected-requires
 protected-requires c κs = search needs
 
--- src/lib.rt:485:9
+-- src/lib.rt:473:9
 with-registers-requires : tie.Need-with-registers-requires
 with-registers-requires c κs = search needs
 
--- src/lib.rt:486:5
+-- src/lib.rt:474:5
 begun-requires : tie.Need-begun-requires
 begun-requires c κs = search needs
 
--- src/lib.rt:481:1
+-- src/lib.rt:469:1
 returns : tie.Need-returns
 returns c = simp (c .begun .ensures, c .before .with-registers .ensures, c .before .before .protected .ensures)
 

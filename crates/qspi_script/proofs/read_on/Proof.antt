@@ -10,31 +10,31 @@ use Rattle.qspi_script.proofs.ended.Reads as ended-reads
 use Rattle.qspi_script.proofs.next_chunk.Reads as next-chunk-reads
 use Rattle.std.proofs.num.wrapping_add_usize.Reads as wrapping-add-usize-reads
 
--- src/lib.rt:419:57
+-- src/lib.rt:407:57
 cast-wrapping-add-usize : tie.Need-cast-wrapping-add-usize
 cast-wrapping-add-usize c = search needs
 
--- src/lib.rt:419:9
+-- src/lib.rt:407:9
 wrapping-add-usize-requires : tie.Need-wrapping-add-usize-requires
 wrapping-add-usize-requires c κs = search needs
 
--- src/lib.rt:420:9
+-- src/lib.rt:408:9
 next-chunk-requires : tie.Need-next-chunk-requires
 next-chunk-requires c κs = search needs
 
--- src/lib.rt:429:9
+-- src/lib.rt:417:9
 ended-requires : tie.Need-ended-requires
 ended-requires c κs = search needs
 
--- src/lib.rt:431:9
+-- src/lib.rt:419:9
 begun-requires : tie.Need-begun-requires
 begun-requires c κs = search needs
 
--- src/lib.rt:414:1
+-- src/lib.rt:402:1
 returns : tie.Need-returns
 returns c = simp (c .ended .ensures, eq-eqb _ _ (c .before .if1 .taken), ← c .before .before .next-chunk .ensures, ← c .before .before .before .wrapping-add-usize .ensures)
 
--- src/lib.rt:414:1
+-- src/lib.rt:402:1
 returns-2 : tie.Need-returns-2
 returns-2 c = simp (c .begun .ensures, ne-eqb _ _ (c .before .if1 .left), ← c .before .before .next-chunk .ensures, ← c .before .before .before .wrapping-add-usize .ensures)
 

@@ -1,129 +1,52 @@
--- The search closes each need. Assumes nothing.
+-- No other stage is the end. Assumes nothing.
+use Prim.Native.Nat.{ℕ}
+use mathlib.Core.List.{List, [], _∷_}
+use mathlib.Core.Path.{_≡_, refl}
+use denote.Enum.Declared.{tagOf}
+use types.Run.{OneOf, miss}
 use borrow.Author.Needs.{needs}
+use Rattle.qspi_script.proofs.Stage as stage
+use Rattle.qspi_script.specs.declared.Stage.{Stage}
+use Rattle.qspi_script.specs.declared.Stage.the-variants.{Enable, Disable, Clear, ReadStatus, ReadConfig, WriteStatus, WriteRegisters, ReadId, ReadLongId, Erase, Program, Poll, Read, Registers, End}
+use Rattle.qspi_script.specs.declared.Status.the-variants.{Going}
+use Rattle.qspi_script.specs.Turns.{statusOf}
 use Rattle.qspi_script.proofs.status_of.Statement.{statement}
 use Rattle.qspi_script.proofs.status_of.Tie as tie
+use Rattle.qspi_script.proofs.status_of.Reads as reads
+use Rattle.qspi_script.proofs.status_of.Lts as lts
 
+-- the tags of the other variants
+abbrev others : List ℕ
+others = 0 ∷ 1 ∷ 2 ∷ 3 ∷ 4 ∷ 5 ∷ 6 ∷ 7 ∷ 8 ∷ 9 ∷ 10 ∷ 11 ∷ 12 ∷ 13 ∷ []
+
+not-end : (x : Stage) → OneOf others (tagOf stage.the-type x) → Going ≡ statusOf x
+not-end Enable h = refl
+not-end Disable h = refl
+not-end Clear h = refl
+not-end ReadStatus h = refl
+not-end ReadConfig h = refl
+not-end WriteStatus h = refl
+not-end WriteRegisters h = refl
+not-end ReadId h = refl
+not-end ReadLongId h = refl
+not-end Erase h = refl
+not-end Program h = refl
+not-end Poll h = refl
+not-end Read h = refl
+not-end Registers h = refl
+not-end End h = absurd (miss others 14 tt h)
+
+-- src/lib.rt:337:9
 enum-told : tie.Need-enum-told
 enum-told c = search needs
 
-enum-told-2 : tie.Need-enum-told-2
-enum-told-2 c = search needs
-
-enum-told-3 : tie.Need-enum-told-3
-enum-told-3 c = search needs
-
-enum-told-4 : tie.Need-enum-told-4
-enum-told-4 c = search needs
-
-enum-told-5 : tie.Need-enum-told-5
-enum-told-5 c = search needs
-
-enum-told-6 : tie.Need-enum-told-6
-enum-told-6 c = search needs
-
-enum-told-7 : tie.Need-enum-told-7
-enum-told-7 c = search needs
-
-enum-told-8 : tie.Need-enum-told-8
-enum-told-8 c = search needs
-
-enum-told-9 : tie.Need-enum-told-9
-enum-told-9 c = search needs
-
-enum-told-10 : tie.Need-enum-told-10
-enum-told-10 c = search needs
-
-enum-told-11 : tie.Need-enum-told-11
-enum-told-11 c = search needs
-
-enum-told-12 : tie.Need-enum-told-12
-enum-told-12 c = search needs
-
-enum-told-13 : tie.Need-enum-told-13
-enum-told-13 c = search needs
-
-enum-told-14 : tie.Need-enum-told-14
-enum-told-14 c = search needs
-
-enum-told-15 : tie.Need-enum-told-15
-enum-told-15 c = search needs
-
+-- src/lib.rt:333:1
 returns : tie.Need-returns
 returns c = search needs
 
+-- src/lib.rt:333:1
 returns-2 : tie.Need-returns-2
-returns-2 c = search needs
-
-returns-3 : tie.Need-returns-3
-returns-3 c = search needs
-
-returns-4 : tie.Need-returns-4
-returns-4 c = search needs
-
-returns-5 : tie.Need-returns-5
-returns-5 c = search needs
-
-returns-6 : tie.Need-returns-6
-returns-6 c = search needs
-
-returns-7 : tie.Need-returns-7
-returns-7 c = search needs
-
-returns-8 : tie.Need-returns-8
-returns-8 c = search needs
-
-returns-9 : tie.Need-returns-9
-returns-9 c = search needs
-
-returns-10 : tie.Need-returns-10
-returns-10 c = search needs
-
-returns-11 : tie.Need-returns-11
-returns-11 c = search needs
-
-returns-12 : tie.Need-returns-12
-returns-12 c = search needs
-
-returns-13 : tie.Need-returns-13
-returns-13 c = search needs
-
-returns-14 : tie.Need-returns-14
-returns-14 c = search needs
-
-returns-15 : tie.Need-returns-15
-returns-15 c = search needs
+returns-2 c = not-end (c .before .args .stage) (c .match .keys2)
 
 pub status-of-spec : {M : Type 1} → statement M
-status-of-spec =
-    tie.close
-    (tie.spec
-    enum-told
-    enum-told-2
-    enum-told-3
-    enum-told-4
-    enum-told-5
-    enum-told-6
-    enum-told-7
-    enum-told-8
-    enum-told-9
-    enum-told-10
-    enum-told-11
-    enum-told-12
-    enum-told-13
-    enum-told-14
-    enum-told-15
-    returns
-    returns-2
-    returns-3
-    returns-4
-    returns-5
-    returns-6
-    returns-7
-    returns-8
-    returns-9
-    returns-10
-    returns-11
-    returns-12
-    returns-13
-    returns-14
-    returns-15)
+status-of-spec = tie.close (tie.spec enum-told returns returns-2)

@@ -9,39 +9,39 @@ use Rattle.qspi_script.proofs.configure.Reads as configure-reads
 use Rattle.qspi_script.proofs.ended.Reads as ended-reads
 use Rattle.qspi_script.proofs.protect.Reads as protect-reads
 
--- src/lib.rt:497:41
+-- src/lib.rt:485:41
 enum-told : tie.Need-enum-told
 enum-told c = search needs
 
--- src/lib.rt:497:28
+-- src/lib.rt:485:28
 ended-requires : tie.Need-ended-requires
 ended-requires c κs = search needs
 
--- src/lib.rt:498:31
+-- src/lib.rt:486:31
 enum-told-2 : tie.Need-enum-told-2
 enum-told-2 c = search needs
 
--- src/lib.rt:498:31
+-- src/lib.rt:486:31
 configure-requires : tie.Need-configure-requires
 configure-requires c κs = search needs
 
--- src/lib.rt:499:29
+-- src/lib.rt:487:29
 enum-told-3 : tie.Need-enum-told-3
 enum-told-3 c = search needs
 
--- src/lib.rt:499:29
+-- src/lib.rt:487:29
 protect-requires : tie.Need-protect-requires
 protect-requires c κs = search needs
 
--- src/lib.rt:490:1
+-- src/lib.rt:478:1
 returns : tie.Need-returns
 returns c = simp (c .ended .ensures, c .before .enum-told .given .1)
 
--- src/lib.rt:490:1
+-- src/lib.rt:478:1
 returns-2 : tie.Need-returns-2
 returns-2 c = simp (c .configure .ensures, c .before .enum-told2 .given .1)
 
--- src/lib.rt:490:1
+-- src/lib.rt:478:1
 returns-3 : tie.Need-returns-3
 returns-3 c = simp (c .protect .ensures, c .before .enum-told3 .given .1)
 
