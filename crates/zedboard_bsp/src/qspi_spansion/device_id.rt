@@ -166,7 +166,7 @@ impl ExtendedDeviceId {
 
     // The Rust's two `char`s, as the bytes that they are.
     pub fn model_number(self) -> [u8; 2]
-        ensures bytes { λ r. ⌜ r ≡ self .«model_number» ⌝ }
+        ensures characters { λ r. ⌜ r ≡ self .«model_number» ⌝ }
     {
         Self::model_number_raw(self)
     }

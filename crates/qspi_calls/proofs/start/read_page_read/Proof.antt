@@ -1,0 +1,13 @@
+-- What the callee promises. Assumes nothing.
+use borrow.Author.Needs.{needs}
+use Rattle.qspi_calls.proofs.start.read_page_read.Statement.{statement}
+use Rattle.qspi_calls.proofs.start.read_page_read.Tie as tie
+
+read-requires : tie.Need-read-requires
+read-requires c κs = search needs
+
+returns : tie.Need-returns
+returns c = c .read .ensures
+
+pub read-page-read-spec : {M : Type 1} → statement M
+read-page-read-spec = tie.close (tie.spec read-requires returns)
