@@ -29,7 +29,6 @@ use Rattle.qspi_calls.proofs.OneTransfer.{register-value}
 use Rattle.qspi_calls.proofs.Promised.{ran-of, register-of}
 use Rattle.qspi_calls.proofs.Whole.{Whole}
 use Rattle.qspi_operation.specs.Run.{Run}
-use Rattle.qspi_operation.specs.Run as by-counters
 use Rattle.qspi_operation.specs.declared.Stepped.{Stepped}
 use Rattle.qspi_script.specs.declared.Status.{Status}
 use Rattle.qspi_transfer.specs.declared.Wire.{Wire}
@@ -80,9 +79,6 @@ new quad clear log₀ log₁ rs e p = rw (← e) p
 -- what the code hands back at the end of a run
 pub handed-of : {s : Stepped} {log₁ : List ℕ} {e : Run} → Ended s log₁ e → handed s ≡ ended e
 handed-of n = rw (n .answer, n .op)
-
-pub handed-with-buffer : {s : Stepped} {buffer₁ log₁ : List ℕ} {e : Run} → by-counters.Ran s buffer₁ log₁ e → handed s ≡ ended e
-handed-with-buffer n = rw (n .answer, n .op)
 
 pub saved-pages : {p : PagesRan} {s : Ran} {n : ℕ} {q : QspiPagesRan} → q ≡ pages p → p .ran ≡ s → p .programmed ≡ n → q ≡ pages (record { ran = s; programmed = n })
 saved-pages {p} {s} e₁ e₂ e₃ =

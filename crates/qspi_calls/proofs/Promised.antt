@@ -14,6 +14,7 @@ use Rattle.qspi_script.specs.declared.Status.{Status}
 use Rattle.qspi_operation.specs.declared.Op.{Op}
 use Rattle.qspi_operation.specs.declared.Stepped.{Stepped}
 use Rattle.qspi_operation.specs.Run.{Run, runOf}
+use Rattle.qspi_operation.specs.Run as by-counters
 use Rattle.qspi_operation.specs.Step.{programmedOf}
 use Rattle.qspi_calls.specs.Machine.{Script, Result, valuesIn, countIn, called}
 use Rattle.qspi_calls.specs.Values.{isDone}
@@ -22,6 +23,10 @@ use Rattle.qspi_calls.proofs.LowLevelCalls.{clock-value}
 use Rattle.qspi_calls.proofs.Whole.{Whole, Starts, whole}
 use Rattle.qspi_calls.specs.declared.run.Ran.{Ran}
 use Rattle.qspi_calls.specs.Promise.{ranOf, loggedOf, handed, ended, Ended, valueOf, idOf, keptOf}
+
+-- what a run promises, but for its buffer
+pub without-buffer : {s : Stepped} {buffer₁ log₁ : List ℕ} {e : Run} → by-counters.Ran s buffer₁ log₁ e → Ended s log₁ e
+without-buffer n = record { op = n .op; answer = n .answer; logged = n .logged }
 
 module _ (Values : Status → Wire → List ℕ) (c : Script) (bytes rs log buffer : List ℕ) where
   abbrev result : Result

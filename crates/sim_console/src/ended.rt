@@ -1,18 +1,9 @@
 // How a run ended, as far as it is printed.
 use qspi_operation::Op;
 use qspi_script::Stage;
-use qspi_script::Status;
 use qspi_transfer::Phase;
 use sim_report::Ended;
 use simulated_device::run::Ran;
-
-fn is_done(status: Status) -> bool {
-    if let Status::Done = status {
-        true
-    } else {
-        false
-    }
-}
 
 fn is_last(phase: Phase) -> bool {
     if let Phase::Disable = phase {
@@ -23,17 +14,15 @@ fn is_last(phase: Phase) -> bool {
 }
 
 // Whether chip select has risen after the erase command, and the status loop has not ended. It is told by
-// where the operation stands, since the observer of the log watches page programs.
-fn is_erasing(op: Op, is_done: bool) -> bool {
+// where the operation stands, since the observer of the log watches page programs; one that is done stands
+// at `Stage::End`.
+fn is_erasing(op: Op) -> bool {
     let job = op.job;
     let script = job.script;
     let place = op.place;
     let wire = op.wire;
     let stage = place.stage;
     let phase = wire.phase;
-    if is_done {
-        return false;
-    }
     match stage {
         Stage::Erase => is_last(phase),
         Stage::Poll => script.erasing,
@@ -51,7 +40,7 @@ pub fn of_run(ran: Ran) -> Ended {
         replies: op.replies,
         programmed: qspi_operation::programmed(op),
         refused: ran.refused,
-        erasing: is_erasing(op, is_done(answer)),
+        erasing: is_erasing(op),
         older: wire.older,
         old: wire.old,
         last: wire.last,

@@ -47,7 +47,7 @@ returns : tie.Need-returns
 returns c =
     let x = c .before .before .before .before .before .before .before .before .before .before .before .before .args in
     let n = c .before .before .before .before .before .run .ensures in
-    let k = promise.kept-by no-values (call.program (x .addr) (now (x .«data»))) (now (x .«data»)) (now (x .replies)) (now (x .log)) [] (omega (arith, c .before .before .before .before .before .before .before .before .before .before .before .before .good)) (c .before .before .before .before .before .before .before .before .program .ensures) (several.program (x .addr) (now (x .«data»)) (now (x .log))) (record { op = n .op; answer = n .answer; logged = n .logged }) in
+    let k = promise.kept-by no-values (call.program (x .addr) (now (x .«data»))) (now (x .«data»)) (now (x .replies)) (now (x .log)) [] (omega (arith, c .before .before .before .before .before .before .before .before .before .before .before .before .good)) (c .before .before .before .before .before .before .before .before .program .ensures) (several.program (x .addr) (now (x .«data»)) (now (x .log))) (promise.without-buffer n) in
     (outputs.plain (c .ran-out .ensures) (c .before .finish .ensures ∙ k .ran), k .logged)
 
 pub qspi-program-spec : {M : Type 1} → statement M

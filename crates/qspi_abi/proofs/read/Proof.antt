@@ -1,5 +1,6 @@
 -- The numbers are those at the run's end. Assumes nothing.
 use mathlib.Core.Path.{_∙_}
+use Rattle.qspi_calls.proofs.Promised.{without-buffer}
 use Rattle.qspi_abi.proofs.Outputs as outputs
 use borrow.Author.Needs.{needs}
 use Rattle.qspi_abi.proofs.read.Statement.{statement}
@@ -38,7 +39,7 @@ same-length-2 c = search needs
 returns : tie.Need-returns
 returns c =
     let n = c .before .before .before .before .before .before .run .ensures in
-    (outputs.plain (c .ran-out .ensures) (c .before .finish .ensures ∙ outputs.handed-with-buffer n), (n .logged, n .stored))
+    (outputs.plain (c .ran-out .ensures) (c .before .finish .ensures ∙ outputs.handed-of (without-buffer n)), (n .logged, n .stored))
 
 pub read-spec : {M : Type 1} → statement M
 read-spec =
