@@ -20,10 +20,14 @@ pub struct Ended {
     pub last: u32,
 }
 
+// A call that was stepped to its end has a number.
+const NO_NUMBER: u32 = 26;
+
 pub fn end_of(op: Op) -> Ended {
     let status = op.status;
+    let number = status.number();
     Ended {
-        answer: status.number() as usize,
+        answer: number.unwrap_or(NO_NUMBER) as usize,
         used: op.used,
         replies: op.replies,
         older: op.wire.older,

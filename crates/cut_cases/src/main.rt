@@ -107,10 +107,14 @@ fn spot(doubt: Spot) {
     }
 }
 
+// A run has an end, and so a number.
+const NO_NUMBER: u32 = 26;
+
 fn answer(pages: PagesRan) {
     let ran = pages.ran;
     let status = ran.answer;
-    decimal(b" answer ", status.number() as usize);
+    let number = status.number();
+    decimal(b" answer ", number.unwrap_or(NO_NUMBER) as usize);
     decimal(b" programmed ", pages.programmed);
     text(b"\n");
 }

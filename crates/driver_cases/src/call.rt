@@ -111,8 +111,6 @@ fn end_of(driven: Driven) -> Ended {
 }
 
 fn number(answer: Answer) -> u32 {
-    match answer {
-        Answer::Given(status) => status.number(),
-        Answer::Busy => BUSY,
-    }
+    let number = answer.number();
+    number.unwrap_or(BUSY)
 }

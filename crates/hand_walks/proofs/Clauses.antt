@@ -26,3 +26,6 @@ module _ {M : Type 1} (𝓤 : URA M) where
 
   pub each-of-four : (φ ψ χ ω : Type 0) → ent 𝓤 (fact 𝓤 (φ × (ψ × (χ × ω)))) (sep 𝓤 (fact 𝓤 φ) (sep 𝓤 (fact 𝓤 ψ) (sep 𝓤 (fact 𝓤 χ) (fact 𝓤 ω))))
   each-of-four φ ψ χ ω = via 𝓤 (sep 𝓤 (fact 𝓤 φ) (fact 𝓤 (ψ × (χ × ω)))) (each-of-two φ (ψ × (χ × ω))) (monoR 𝓤 (fact 𝓤 φ) (each-of-three ψ χ ω))
+
+  pub each-of-five : (φ ψ χ ω θ : Type 0) → ent 𝓤 (fact 𝓤 (φ × (ψ × (χ × (ω × θ))))) (sep 𝓤 (fact 𝓤 φ) (sep 𝓤 (fact 𝓤 ψ) (sep 𝓤 (fact 𝓤 χ) (sep 𝓤 (fact 𝓤 ω) (fact 𝓤 θ)))))
+  each-of-five φ ψ χ ω θ = via 𝓤 (sep 𝓤 (fact 𝓤 φ) (fact 𝓤 (ψ × (χ × (ω × θ))))) (each-of-two φ (ψ × (χ × (ω × θ)))) (monoR 𝓤 (fact 𝓤 φ) (each-of-four ψ χ ω θ))

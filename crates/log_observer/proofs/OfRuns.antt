@@ -4,7 +4,7 @@ use mathlib.Core.List.{List, _++_}
 use Prim.Native.Nat.{ℕ, _^_, _≤_, _<_}
 use lib.ListN.{length, take}
 use Rattle.zynq7000.specs.Access.{encode}
-use Rattle.qspi_calls.specs.Machine.{called}
+use Rattle.qspi_operation.specs.Machine.{called}
 use Rattle.qspi_calls.specs.Calls.{writePages}
 use Rattle.qspi_calls.proofs.Registers.{write-pages, run-loggable}
 use Rattle.power_cut.specs.Observer.{observed}

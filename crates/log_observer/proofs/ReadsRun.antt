@@ -16,7 +16,7 @@ use Rattle.access_log.proofs.RoundTrip.{reads-back}
 use Rattle.access_log.proofs.Leading.{accesses-written}
 use Rattle.access_log.proofs.Reading.{reader-reads-back}
 use denote.Ref.{now}
-use Rattle.qspi_calls.specs.Machine.{Script, Result, called}
+use Rattle.qspi_operation.specs.Machine.{Script, Result, called}
 use Rattle.zynq7000.proofs.AccessLaws.{length-encode}
 use Rattle.qspi_calls.proofs.Registers.{OnRegisters, runs-on-registers}
 use Rattle.qspi_calls.specs.Promise.{ranOf, loggedOf}

@@ -12,13 +12,13 @@ use Rattle.zynq7000.specs.Bits.{isSet, clear}
 use Rattle.zynq7000.specs.declared.qspi.Access.{Access}
 use Rattle.qspi_transfer.specs.LowLevel.{chipSelectHigh, chipSelectLow, started}
 use Rattle.qspi_transfer.specs.Wire.{waits}
-use Rattle.qspi_calls.specs.Machine.{Transfer, wantAt}
+use Rattle.qspi_operation.specs.Machine.{Transfer, wantAt, Matches, m-read, m-write}
 use Rattle.power_cut.specs.Flash.{Flash, execute}
 use Rattle.power_cut.specs.Controller.{tx, registerAt, bytesOut, high, manual, Device, device, Shows, configured, afterWrite, afterRead, effect, someWait, GivenBy, Gives, AllOut}
 use Rattle.qspi_calls.proofs.Phases.{words}
 use Rattle.power_cut.proofs.Driver.{Phase, draining, dropping, opening, lowering, switching, sending, starting, releasing, waiting, again, taking, closing, raising, leaving, midway, action, sendNext, takeNext, phaseAfter, takenAfter}
 use Rattle.power_cut.proofs.Levels.{high-put, high-clear, high-start, high-stored, starts-put, starts-stored, starts-high, starts-low, manual-high, manual-low, manual-start, manual-stored}
-use Rattle.power_cut.proofs.Watch.{Matches, m-read, m-write, flat, newest}
+use Rattle.power_cut.proofs.Watch.{flat, newest}
 
 -- ---- lists
 

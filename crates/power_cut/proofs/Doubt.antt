@@ -13,14 +13,14 @@ use Rattle.zedboard_bsp.specs.Words.{topByte}
 use Rattle.qspi_transfer.specs.LowLevel.{chipSelectHigh, chipSelectLow, started}
 use Rattle.qspi_transfer.specs.Wire.{waits}
 use Rattle.qspi_calls.specs.Chunks.{Chunk}
-use Rattle.qspi_calls.specs.Machine.{wantAt}
+use Rattle.qspi_operation.specs.Machine.{wantAt, Matches, m-read, m-write}
 use Rattle.power_cut.specs.Flash.{Flash, commandOf}
 use Rattle.power_cut.specs.Controller.{registerAt, bytesOut, high, isStatusRead, Device, device, configured, afterRead, afterWrite, effect}
 use Rattle.power_cut.specs.Observer.{Transfer, closed, opened, Seen, commanded, isClean, seen, Observed, raised, unless, doubtEnable, doubtAfter, see}
 use Rattle.power_cut.proofs.Driver.{Phase, dropping, opening, waiting, again, taking, midway, action, sendNext, takeNext, phaseAfter, isLast, Stage, enables, programs, polls, clears, disables, transferOf, Driver, at, over, Verdict, accepts, refusesWith, verdictOn, startOn, startNext, settled, stageAfter, driverAfter}
 use Rattle.power_cut.proofs.Fits.{Fit, Going}
 use Rattle.power_cut.proofs.Levels.{high-put, high-start, high-stored}
-use Rattle.power_cut.proofs.Watch.{Matches, m-read, m-write, width, port-is, asked, asks-program, program-unclean, newest, newest-one, view, programsEnd}
+use Rattle.power_cut.proofs.Watch.{width, port-is, asked, asks-program, program-unclean, newest, newest-one, view, programsEnd}
 use Rattle.power_cut.proofs.Control.{Ctl, c-drain, c-drop, c-open, c-lower, c-switch, c-send, c-start, c-release, c-wait, c-again, c-take, c-close, c-raise, c-leave}
 use Rattle.power_cut.proofs.OnDevice.{last-or, last-sends, last-take}
 

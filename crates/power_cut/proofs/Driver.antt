@@ -14,8 +14,8 @@ use Rattle.qspi_transfer.specs.LowLevel.{chipSelectHigh, chipSelectLow, started
 use Rattle.qspi_script.specs.declared.Status.{Status}
 use Rattle.qspi_script.specs.declared.Status.the-variants.{Done, OutOfRange, DataTooLarge, NotAligned, CrossesPageBoundary, ProgrammingErrorBitSet}
 use Rattle.qspi_calls.specs.Chunks.{Chunk, chunks}
-use Rattle.qspi_calls.specs.Machine as machine
-use Rattle.qspi_calls.specs.Machine.{Action, write, modify, drain, reply, Midway, first, changed, ready, stays, Transfer, replicate, replying, Script, counts, exchange, State, going, ended, onward, begin, moves, next}
+use Rattle.qspi_operation.specs.Machine as machine
+use Rattle.qspi_operation.specs.Machine.{Action, write, modify, drain, reply, Midway, first, changed, ready, stays, Transfer, replicate, replying, Script, counts, exchange, State, going, ended, onward, begin, moves, next}
 use Rattle.qspi_calls.specs.Calls.{enabling, disabling, clearing, statusReading, programming, top, refused, failing, settling, working, pages, writePages}
 use Rattle.qspi_calls.proofs.Phases.{words}
 use Rattle.power_cut.specs.Statement.{total}

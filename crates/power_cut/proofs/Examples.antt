@@ -12,7 +12,7 @@ use Rattle.zynq7000.specs.declared.qspi.Access.{Access}
 use Rattle.zynq7000.specs.declared.qspi.Access.the-variants as access
 use Rattle.qspi_script.specs.declared.Status.the-variants.{Done}
 use Rattle.qspi_calls.specs.Chunks.{Chunk, chunksIn, chunks, Among, here}
-use Rattle.qspi_calls.specs.Machine.{Result, countIn, runs, called}
+use Rattle.qspi_operation.specs.Machine.{Result, countIn, runs, called}
 use Rattle.qspi_calls.specs.Calls.{writePages}
 use Rattle.power_cut.specs.Flash.{Array, Flash, flash, busy, programOf, eraseOf, commandOf, programmed, obey, execute, settles, AfterCut}
 use Rattle.power_cut.specs.Controller.{registerAt, bytesOut, isStatusRead, showsBusy, showsProgramError, showsEraseError, Device, device, flashOf, Shows, out, idle, configured, afterWrite, afterRead, effect, GivenBy, Gives, AllOut, Trace, still, quiet, step, Rests, rests}

@@ -14,7 +14,7 @@ use Rattle.qspi_transfer.specs.Wire.{waits}
 use Rattle.qspi_script.specs.declared.Status.{Status}
 use Rattle.qspi_script.specs.declared.Status.the-variants.{Done, OutOfRange}
 use Rattle.qspi_calls.specs.Chunks.{Chunk, chunksIn, chunks}
-use Rattle.qspi_calls.specs.Machine.{Transfer}
+use Rattle.qspi_operation.specs.Machine.{Transfer}
 use Rattle.qspi_calls.specs.Calls.{top}
 use Rattle.qspi_calls.proofs.WireOrder.{AllBytes}
 use Rattle.qspi_calls.proofs.Phases.{words}

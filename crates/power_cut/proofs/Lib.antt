@@ -15,3 +15,4 @@ pub mod FlashLaws
 pub mod Examples
 pub mod WrongDrivers
 pub mod Promised
+pub mod Stepped

@@ -9,7 +9,7 @@ use Rattle.zynq7000.specs.Access.{offsetIn, firstWord, valueWord, Aligned, enco
 use Rattle.zynq7000.specs.declared.qspi.Access.{Access}
 use Rattle.zynq7000.specs.declared.qspi.Record.the-variants as record-of
 use Rattle.zynq7000.proofs.AccessLaws.{read-words}
-use Rattle.qspi_calls.specs.Machine.{Result}
+use Rattle.qspi_operation.specs.Machine.{Result}
 use Rattle.zynq7000.proofs.AccessLaws.{length-encode}
 use Rattle.qspi_calls.specs.Promise.{ranOf, loggedOf}
 

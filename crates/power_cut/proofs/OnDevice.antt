@@ -11,14 +11,14 @@ use Rattle.zynq7000.specs.Access.{valueWord}
 use Rattle.zynq7000.specs.declared.qspi.Access.{Access}
 use Rattle.qspi_transfer.specs.Wire.{waits}
 use Rattle.qspi_calls.specs.Chunks.{Chunk}
-use Rattle.qspi_calls.specs.Machine.{Transfer, want, wantAt}
+use Rattle.qspi_operation.specs.Machine.{Transfer, want, wantAt, Matches, m-write}
 use Rattle.qspi_calls.proofs.ProgramWords.{length-words}
 use Rattle.power_cut.specs.Flash.{Array, programmed, programming, Flash, flash, busy, commandOf, obey, execute, Settles, settles}
 use Rattle.power_cut.specs.Controller.{registerAt, bytesOut, showsBusy, showsProgramError, isStatusRead, Device, device, Silent, out, unasked, idle, afterWrite, effect, Gives, AllOut}
 use Rattle.qspi_calls.proofs.Phases.{words}
 use Rattle.power_cut.proofs.Driver.{Phase, draining, dropping, opening, lowering, switching, sending, starting, releasing, waiting, again, taking, closing, raising, leaving, midway, action, sendNext, takeNext, phaseAfter, takenAfter, isLast, Stage, enables, programs, polls, clears, disables, transferOf, Ending, succeeded, failed, refuses, Driver, at, over, stateOf, Verdict, accepts, refusesWith, verdictOn, startOn, startNext, settled, stageAfter, driverAfter}
 use Rattle.power_cut.proofs.Fits.{Fit, Going, Good}
-use Rattle.power_cut.proofs.Watch.{Matches, m-write, width, port-is, asked, asks-program, newest, newest-one}
+use Rattle.power_cut.proofs.Watch.{width, port-is, asked, asks-program, newest, newest-one}
 use Rattle.power_cut.proofs.Lands.{applied, applied-snoc}
 use Rattle.power_cut.proofs.Control.{Up, Live, c-drain, c-leave, Held, held, flashAfter, accessed, Says, goes-out, by-hand, ctl-map}
 

@@ -11,9 +11,9 @@ use lib.Seq.{append-snoc}
 use borrow.Author.Tests.{le-ltb, eq-eqb}
 use Rattle.qspi_script.specs.declared.Status.the-variants.{Done}
 use Rattle.qspi_calls.specs.Chunks.{Chunk, chunks, Among, here, there}
-use Rattle.qspi_calls.specs.Machine.{begin}
+use Rattle.qspi_operation.specs.Machine.{begin}
 use Rattle.qspi_calls.specs.Calls.{zeros, writePages}
-use Rattle.qspi_calls.specs.Prompt.{repliesOf}
+use Rattle.qspi_operation.specs.Machine.{repliesOf}
 use Rattle.qspi_calls.proofs.WireOrder.{AllBytes}
 use Rattle.qspi_calls.proofs.Pages.{within}
 use Rattle.qspi_calls.proofs.PromptLogs.{Plays, counting-logs}

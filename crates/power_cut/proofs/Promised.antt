@@ -1,53 +1,91 @@
--- What the run of `write_pages` promises, out of the tie of its start to its script. Assumes nothing.
-use mathlib.Core.Path.{_≡_, _∙_, sym}
+-- What the run of `write_pages` promises, out of what its start and its run promise. Assumes nothing.
+use mathlib.Core.Path.{_≡_, refl, ap, subst, _∙_, sym}
+use mathlib.Core.Bool.{Bool, true, false}
 use mathlib.Core.List.{List, [], _∷_}
-use Prim.Native.Nat.{ℕ, suc, _/_, _^_, _<_}
+use Prim.Native.Nat.{ℕ, suc, _+_, _/_, _<_}
+use lib.Dec.{ltb}
 use lib.ListN.{length, getD}
+use Rattle.qspi_script.specs.Answer.{Answered}
+use Rattle.qspi_script.specs.declared.Gives.the-variants as gives
+use Rattle.qspi_script.specs.declared.Job.{Job}
+use Rattle.qspi_script.specs.declared.Status.{Status}
+use Rattle.qspi_script.specs.declared.Status.the-variants.{OutOfRange}
+use Rattle.qspi_script.specs.declared.Stage.the-variants as stage
+use Rattle.qspi_script.specs.Turns.{nextPage}
+use Rattle.qspi_script.proofs.AnswerLaws.{said-fixes}
 use Rattle.qspi_operation.specs.declared.Op.{Op}
 use Rattle.qspi_operation.specs.declared.Stepped.{Stepped}
+use Rattle.qspi_operation.specs.Run as by-counters
 use Rattle.qspi_operation.specs.Run.{runOf}
+use Rattle.qspi_operation.specs.Machine.{Result, countIn, called}
+use Rattle.qspi_operation.specs.Points.{answeredOf}
+use Rattle.qspi_operation.specs.Follows.{RunFollows, answerBy}
 use Rattle.qspi_operation.specs.Step.{programmedOf}
-use Rattle.qspi_calls.specs.Machine.{Result, countIn, called}
+use Rattle.qspi_operation.proofs.Runs.{run-job}
+use Rattle.qspi_calls.specs.Begins.{BeginsWith}
 use Rattle.qspi_calls.specs.Calls.{writePages}
-use Rattle.qspi_calls.specs.Starts.{writePagesOf}
-use Rattle.qspi_calls.proofs.Short.{no-values}
-use Rattle.qspi_calls.proofs.WireOrder.{AllBytes}
-use Rattle.qspi_calls.proofs.Pages.{write-pages}
-use Rattle.qspi_calls.proofs.Registers.{Call, run-loggable}
+use Rattle.qspi_calls.specs.Starts.{pick, over, opened, placeAt, pagingJob, writePagesOf}
 use Rattle.qspi_calls.specs.declared.run.Ran.{Ran}
-use Rattle.qspi_calls.specs.Promise.{ranOf, loggedOf, handed, Ended}
-use Rattle.qspi_calls.proofs.Promised.{kept-by}
-use Rattle.power_cut.specs.Promise.{Saved}
+use Rattle.qspi_calls.specs.Promise.{loggedOf, handed, Called}
+use Rattle.qspi_calls.proofs.WireOrder.{AllBytes}
+use Rattle.qspi_calls.proofs.Registers.{Call, run-loggable}
+use Rattle.qspi_calls.proofs.Promised.{whole-call}
+use Rattle.power_cut.specs.Promise.{Saved, answerOf}
+use Rattle.power_cut.specs.declared.PagesRan.{PagesRan}
 use Rattle.power_cut.proofs.Theorem.{power-cut}
 use Rattle.power_cut.proofs.Offsets.{used-words}
 
 -- what is lent as bytes is bytes
-all-bytes : (bs : List ℕ) → ((i : ℕ) → getD bs i 0 < 256) → AllBytes bs
+pub all-bytes : (bs : List ℕ) → ((i : ℕ) → getD bs i 0 < 256) → AllBytes bs
 all-bytes [] h = tt
 all-bytes (b ∷ bs) h = (h 0, all-bytes bs (λ i. h (suc i)))
+
+-- the job of a save, however it starts
+pub paging : (a n log : ℕ) → writePagesOf a n log .job ≡ pagingJob a n log
+paging a n log = go (ltb 16777215 (a + n))
+  where
+    go : (b : Bool) → pick b (over (pagingJob a n log) OutOfRange) (opened (pagingJob a n log) (nextPage (pagingJob a n log) (placeAt stage.Enable 0 0 0))) .job ≡ pagingJob a n log
+    go true = refl
+    go false = refl
+
+-- it gives nothing beside its counts
+pub pages-answer : (s : Stepped) → s .op .job .script .gives ≡ gives.Nothing → answerOf (record { ran = handed s; programmed = programmedOf (s .op) }) ≡ answerBy s
+pages-answer s e = rw e
 
 module _ (a : ℕ) (bytes rs log : List ℕ) where
   abbrev pub result : Result
   result = called (writePages a bytes) (length log / 2) rs
 
   -- answer and used counts, bytes programmed, log
-  pub record Promised (r : Ran) (n : ℕ) (log₁ : List ℕ) : Type 0 where
-    pub ran : r ≡ ranOf result
-    pub counted : n ≡ countIn (result .state)
+  pub record Promised (r : PagesRan) (log₁ : List ℕ) : Type 0 where
+    pub answer : answerOf r ≡ answeredOf result
     pub logged : log₁ ≡ loggedOf result log
 
-  pub promised : {o : Op} {s : Stepped} {r : Ran} {n : ℕ} {log₁ : List ℕ} → length rs < 2 ^ 64 → o ≡ writePagesOf a (length bytes) (length log) → Ended s log₁ (runOf o bytes rs [] log) → n ≡ programmedOf (s .op) → r ≡ handed s
-      → Promised r n log₁
-  promised fits e h f g =
-      let k = kept-by no-values (writePages a bytes) bytes rs log [] fits e (write-pages a bytes log) h in
-      record { ran = g ∙ k .ran; counted = f ∙ sym (k .counted); logged = k .logged }
+  pub promised : {o : Op} {s : Stepped} {r : Ran} {n : ℕ} {buffer₁ log₁ : List ℕ} → (o ≡ writePagesOf a (length bytes) (length log)) × BeginsWith (length bytes) (length log) (writePages a) o
+      → by-counters.Ran s buffer₁ log₁ (runOf o bytes rs [] log) × RunFollows o bytes [] log rs s buffer₁ log₁ → n ≡ programmedOf (s .op) → r ≡ handed s → Promised (record { ran = r; programmed = n }) log₁
+  promised {o} {s} {buffer₁ = buffer₁} {log₁ = log₁} e h f g =
+      let k : Called (writePages a bytes) log [] rs s buffer₁ log₁ = whole-call (writePages a bytes) (record { bytes = bytes; buffer = []; room = length log }) (e .1 bytes refl) (h .1) refl refl in
+      let j : s .op .job ≡ pagingJob a (length bytes) (length log) = ap (λ (z : Op). z .job) (h .0 .op) ∙ run-job o bytes rs [] log ∙ ap (λ (z : Op). z .job) (e .0) ∙ paging a (length bytes) (length log) in
+      record { answer = rw (g, f) (pages-answer s (ap (λ (z : Job). z .script .gives) j)) ∙ k .answer; logged = k .logged }
+
+  -- the status and the counts that an answer says
+  ran-is : {r : PagesRan} → answerOf r ≡ answeredOf result → r ≡ record { ran = record { answer = result .answer; used = answeredOf result .used; replies = answeredOf result .replies }; programmed = countIn (result .state) }
+  ran-is {r} e =
+      let y : r .ran .answer ≡ result .answer = said-fixes _ _ _ _ (ap (λ (x : Answered). x .says) e) in
+      let u : r .ran .used ≡ answeredOf result .used = ap (λ (x : Answered). x .used) e in
+      let i : r .ran .replies ≡ answeredOf result .replies = ap (λ (x : Answered). x .replies) e in
+      let n : r .programmed ≡ countIn (result .state) = ap (λ (x : Answered). x .programmed) e in
+      ap (λ (z : Status). record { ran = record { answer = z; used = r .ran .used; replies = r .ran .replies }; programmed = r .programmed }) y
+      ∙ ap (λ (z : ℕ). record { ran = record { answer = result .answer; used = z; replies = r .ran .replies }; programmed = r .programmed }) u
+      ∙ ap (λ (z : ℕ). record { ran = record { answer = result .answer; used = answeredOf result .used; replies = z }; programmed = r .programmed }) i
+      ∙ ap (λ (z : ℕ). record { ran = record { answer = result .answer; used = answeredOf result .used; replies = answeredOf result .replies }; programmed = z }) n
 
   -- and the power-cut statement of them
-  pub saved : {r : Ran} {n : ℕ} {log₁ : List ℕ} → ((i : ℕ) → getD bytes i 0 < 256) → Promised r n log₁ → Saved a bytes (record { ran = r; programmed = n }) log₁
-  saved octets p =
-      rw (p .ran, p .counted, p .logged) (record {
+  pub saved : {r : PagesRan} {log₁ : List ℕ} → ((i : ℕ) → getD bytes i 0 < 256) → Promised r log₁ → Saved a bytes r log₁
+  saved {r} {log₁} octets p =
+      subst (λ (z : PagesRan). Saved a bytes z log₁) (sym (ran-is {r = r} (p .answer))) (rw (p .logged) (record {
         accesses = result .log;
         is-log = used-words result log;
         to-registers = run-loggable (Call.write-pages a bytes) (length log / 2) rs;
         claim = power-cut a bytes (all-bytes bytes octets) (length log / 2) rs;
-      })
+      }))

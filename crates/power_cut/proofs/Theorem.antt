@@ -11,9 +11,11 @@ use lib.ListN.{length, take}
 use Rattle.zynq7000.specs.Access.{valueWord}
 use Rattle.zynq7000.specs.declared.qspi.Access.{Access}
 use Rattle.zynq7000.specs.declared.qspi.Access.the-variants as access
+use Rattle.qspi_script.specs.declared.Status.{Status}
 use Rattle.qspi_script.specs.declared.Status.the-variants.{Done, OutOfRange}
 use Rattle.qspi_calls.specs.Chunks.{Chunk, chunks, Among}
-use Rattle.qspi_calls.specs.Machine.{Want, reads, writes, nothing, State, ended, want, next, statusIn, countIn, Result, noRoom, made, runs, called}
+use Rattle.qspi_operation.specs.Machine.{State, want, next, statusIn, countIn, Result, called, begin, Matches, Makes, after}
+use Rattle.qspi_operation.proofs.Orders.{run-ended}
 use Rattle.qspi_calls.specs.Calls.{writePages}
 use Rattle.qspi_calls.proofs.WireOrder.{AllBytes}
 use Rattle.power_cut.specs.Flash.{Array, lands, Flash, flash, AfterCut}
@@ -23,7 +25,7 @@ use Rattle.power_cut.specs.Statement.{In, total, NextOnly, no-doubt, the
 use Rattle.power_cut.proofs.Driver.{Phase, isLast, Stage, enables, programs, polls, clears, disables, succeeded, failed, refuses, Driver, at, over, stateOf, startNext, driverAfter, driverStart, next-is, start-is}
 use Rattle.power_cut.proofs.Fits.{Fit, AllFit, Going, Good, good-next, good-driver}
 use Rattle.power_cut.proofs.Levels.{both-set}
-use Rattle.power_cut.proofs.Watch.{Matches, m-read, m-write, view, view-start, watch}
+use Rattle.power_cut.proofs.Watch.{view, view-start, watch}
 use Rattle.power_cut.proofs.Lands.{applied, lands-out, spared, beside, Ordered, applied-in, applied-out, chunks-ordered, chunks-total, ordered-front, ordered-seam}
 use Rattle.power_cut.proofs.Control.{Up, held}
 use Rattle.power_cut.proofs.OnDevice.{Calm, calm, Ready, ready, Works, under, past, FlashAt, Known, OnDevice, during, silent, begins, advance}
@@ -32,46 +34,10 @@ use Rattle.power_cut.proofs.Doubt.{upOf, doubtAt, doubtNow, start-doubt
 
 -- ---- the logs that a machine makes
 
-abbrev pub Follows : State → List Access → Type 0
-Follows s [] = Unit {0}
-Follows s (a ∷ l) = Matches (want s) a × Follows (next s (valueWord a)) l
-
-abbrev pub after : State → List Access → State
-after s [] = s
-after s (a ∷ l) = after (next s (valueWord a)) l
-
-pub follows-take : (k : ℕ) (s : State) (l : List Access) → Follows s l → Follows s (take k l)
+pub follows-take : (k : ℕ) (s : State) (l : List Access) → Makes s l → Makes s (take k l)
 follows-take zero s l h = tt
 follows-take (suc k) s [] h = tt
 follows-take (suc k) s (a ∷ l) h = (h .0, follows-take k (next s (valueWord a)) l (h .1))
-
--- a run makes such a log, and ends in the state after it; it answers Done only where that state does
-pub record Made (s : State) (r : Result) : Type 0 where
-  pub follows : Follows s (r .log)
-  pub ends : r .state ≡ after s (r .log)
-  pub answers : r .answer ≡ Done → statusIn (after s (r .log)) ≡ Done
-
-no-room : (w : Want) (s : State) (rs : List ℕ) → Made s (noRoom w s rs)
-no-room nothing s rs = record { follows = tt; ends = refl; answers = λ z. z }
-no-room (reads o) s rs = record { follows = tt; ends = refl; answers = λ z. let y : _≡_ {A = ℕ} 0 1 = cc in absurd (omega (arith, y)) }
-no-room (writes o v) s rs = record { follows = tt; ends = refl; answers = λ z. let y : _≡_ {A = ℕ} 0 1 = cc in absurd (omega (arith, y)) }
-
-one-more : (w : Want) (s : State) (n : ℕ) (rs : List ℕ) (run : State → List ℕ → Result) → want s ≡ w → ((t : State) (vs : List ℕ) → Made t (run t vs)) → Made s (made w s n rs run)
-one-more nothing s n rs run e h = record { follows = tt; ends = refl; answers = λ z. z }
-one-more (reads o) s n [] run e h = record { follows = tt; ends = refl; answers = λ z. let y : _≡_ {A = ℕ} 0 1 = cc in absurd (omega (arith, y)) }
-one-more (reads o) s n (v ∷ vs) run e h =
-    let m = h (next s v) vs in
-    let q : Matches (want s) (access.Read o v) = rw e m-read in
-    record { follows = (q, m .follows); ends = m .ends; answers = m .answers }
-one-more (writes o v) s n rs run e h =
-    let m = h (next s v) rs in
-    let q : Matches (want s) (access.Write o v) = rw e m-write in
-    record { follows = (q, m .follows); ends = m .ends; answers = m .answers }
-
-pub makes : (n : ℕ) (s : State) (rs : List ℕ) → Made s (runs n s rs)
-unfolding runs
-makes zero s rs = no-room (want s) s rs
-makes (suc n) s rs = one-more (want s) s n rs (runs n) refl (makes n)
 
 -- ---- the driver along such a log
 
@@ -83,7 +49,7 @@ pub driven-is : (d : Driver) (l : List Access) → after (stateOf d) l ≡ state
 driven-is d [] = refl
 driven-is d (a ∷ l) = rw (next-is d (valueWord a)) (driven-is (driverAfter d (valueWord a)) l)
 
-pub follows-on : (d : Driver) (a : Access) (l : List Access) → Follows (stateOf d) (a ∷ l) → Follows (stateOf (driverAfter d (valueWord a))) l
+pub follows-on : (d : Driver) (a : Access) (l : List Access) → Makes (stateOf d) (a ∷ l) → Makes (stateOf (driverAfter d (valueWord a))) l
 follows-on d a l f = rw (next-is d (valueWord a)) at f .1
 
 pub good-driven : (whole : List Chunk) (d : Driver) (l : List Access) → Good whole d → Good whole (driven d l)
@@ -97,7 +63,7 @@ unfolding see
 seen-see o (access.Read off v) = refl
 seen-see o (access.Write off v) = refl
 
-pub seen-all : (early whole : List Chunk) (d : Driver) (l : List Access) (o : Observed) → o .sofar ≡ view early d → Good whole d → Follows (stateOf d) l → sees o l .sofar ≡ view early (driven d l)
+pub seen-all : (early whole : List Chunk) (d : Driver) (l : List Access) (o : Observed) → o .sofar ≡ view early d → Good whole d → Makes (stateOf d) l → sees o l .sofar ≡ view early (driven d l)
 unfolding sees
 seen-all early whole d [] o e g f = e
 seen-all early whole d (a ∷ l) o e g f =
@@ -118,7 +84,7 @@ module _ (early : List Chunk) (old : Array) where
       → see (showing (view early s) (upOf d) (doubtNow s)) a ≡ showing (view early (driverAfter s (valueWord a))) (upOf (effect d a)) (doubtNow (driverAfter s (valueWord a)))
   step-shows whole {a = a} g (during {s} {p} {taken} {c} {l} {k} {f} y (held z)) m = edge early whole (Known s f) s c l k f g z m ∙ same-rest (watch early whole (at s p taken c l k) a g m)
 
-  pub along : (whole : List Chunk) {d e : Device} {l : List Access} (s : Driver) → Good whole s → OnDevice early old s d → Follows (stateOf s) l → Trace AllOut d l e
+  pub along : (whole : List Chunk) {d e : Device} {l : List Access} (s : Driver) → Good whole s → OnDevice early old s d → Makes (stateOf s) l → Trace AllOut d l e
       → OnDevice early old (driven s l) e × (sees (showing (view early s) (upOf d) (doubtNow s)) l ≡ showing (view early (driven s l)) (upOf e) (doubtNow (driven s l)))
   unfolding sees
   along whole s g y f still = (y, refl)
@@ -227,7 +193,7 @@ start-device a bs old {c} {w} {r} {latch} u = go (ltb 16777215 (a + length bs))
     go true = on.ended tt u calm
     go false = begins [] old (chunks a bs) [] u calm
 
-cut-at : (a : ℕ) (bs : List ℕ) → AllBytes bs → (l : List Access) → Follows (stateOf (driverStart a bs)) l → {d e : Device} (old new : Array) → Rests old d → Trace AllOut d l e → AfterCut (flashOf e) new → Kept a bs old (observed l) new
+cut-at : (a : ℕ) (bs : List ℕ) → AllBytes bs → (l : List Access) → Makes (stateOf (driverStart a bs)) l → {d e : Device} (old new : Array) → Rests old d → Trace AllOut d l e → AfterCut (flashOf e) new → Kept a bs old (observed l) new
 unfolding observed
 cut-at a bs h l f {d} {e} old new (rests {c} {w} {r} {latch} u₁₀ u₁₄ u₁₅ u₁₆) t z =
     let u : Up c = record { up = u₁₀; unstarted = u₁₆; by-hand = both-set u₁₄ u₁₅ } in
@@ -252,31 +218,32 @@ whole-done whole (over (refuses b) l k) g e = absurd (g .1 e)
 abbrev pub PowerCutOf : ℕ → List ℕ → Result → Type 0
 PowerCutOf a bs r = PowerCut a bs (r .log) (r .answer) (countIn (r .state))
 
-pub power-cut : (a : ℕ) (bs : List ℕ) → AllBytes bs → (room : ℕ) (replies : List ℕ) → PowerCutOf a bs (called (writePages a bs) room replies)
+-- of every log that the call makes, where it answers Done only where its script does
+pub power-cut-of : (a : ℕ) (bs : List ℕ) → AllBytes bs → (l : List Access) (answer : Status) (s : State) → Makes (begin (writePages a bs) [] 0) l → s ≡ after (begin (writePages a bs) [] 0) l
+    → (answer ≡ Done → statusIn s ≡ Done) → PowerCut a bs l answer (countIn s)
 unfolding observed
-power-cut a bs h room rs = rw (start-is a bs) claim
+power-cut-of a bs h l answer s f₀ e₀ done = record {
+  cut = λ k i before after₁ old new y t z. cut-at a bs h (take k l) (follows-take k (stateOf d) l f) old new y t z;
+  counted = ap countIn ends-in ∙ done-of (driven d l) ∙ ap (λ (x : Seen). total (x .finished)) (sym shown);
+  whole = λ e. ap countIn ends-in ∙ whole-done (chunks a bs) (driven d l) (good-driven (chunks a bs) d l g) (ap statusIn (sym ends-in) ∙ done e) ∙ chunks-total a bs;
+}
   where
     d : Driver
     d = driverStart a bs
 
-    r : Result
-    r = runs room (stateOf d) rs
-
-    m : Made (stateOf d) r
-    m = makes room (stateOf d) rs
+    f : Makes (stateOf d) l
+    f = rw (start-is a bs) at f₀
 
     g : Good (chunks a bs) d
     g = good-driver a bs h
 
-    ends-in : r .state ≡ stateOf (driven d (r .log))
-    ends-in = m .ends ∙ driven-is d (r .log)
+    ends-in : s ≡ stateOf (driven d l)
+    ends-in = e₀ ∙ ap (λ (z : State). after z l) (start-is a bs) ∙ driven-is d l
 
-    shown : sees fresh (r .log) .sofar ≡ view [] (driven d (r .log))
-    shown = seen-all [] (chunks a bs) d (r .log) fresh (sym (start-shows a bs .0)) g (m .follows)
+    shown : sees fresh l .sofar ≡ view [] (driven d l)
+    shown = seen-all [] (chunks a bs) d l fresh (sym (start-shows a bs .0)) g f
 
-    claim : PowerCutOf a bs r
-    claim = record {
-      cut = λ k i before after₁ old new y t z. cut-at a bs h (take k (r .log)) (follows-take k (stateOf d) (r .log) (m .follows)) old new y t z;
-      counted = ap countIn ends-in ∙ done-of (driven d (r .log)) ∙ ap (λ (s : Seen). total (s .finished)) (sym shown);
-      whole = λ e. ap countIn ends-in ∙ whole-done (chunks a bs) (driven d (r .log)) (good-driven (chunks a bs) d (r .log) g) (ap statusIn (sym (driven-is d (r .log))) ∙ m .answers e) ∙ chunks-total a bs;
-    }
+pub power-cut : (a : ℕ) (bs : List ℕ) → AllBytes bs → (room : ℕ) (replies : List ℕ) → PowerCutOf a bs (called (writePages a bs) room replies)
+power-cut a bs h room rs =
+    let m = run-ended room (begin (writePages a bs) [] 0) rs in
+    power-cut-of a bs h (called (writePages a bs) room rs .log) (called (writePages a bs) room rs .answer) (called (writePages a bs) room rs .state) (m .makes) (m .is) (m .done)

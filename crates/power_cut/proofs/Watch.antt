@@ -13,7 +13,7 @@ use Rattle.zynq7000.specs.declared.qspi.Access.the-variants as access
 use Rattle.zedboard_bsp.specs.Words.{bytesOf, topByte, addressBytes}
 use Rattle.qspi_transfer.specs.Wire.{waits}
 use Rattle.qspi_calls.specs.Chunks.{Chunk}
-use Rattle.qspi_calls.specs.Machine.{Want, reads, writes, want}
+use Rattle.qspi_operation.specs.Machine.{Want, reads, writes, want, Matches, m-read, m-write}
 use Rattle.qspi_calls.specs.Calls.{bytesOfAll, top}
 use Rattle.qspi_calls.proofs.WireOrder.{program-bytes}
 use Rattle.power_cut.specs.Flash.{pageProgram, commandOf, programOf, addressOf}
@@ -23,11 +23,6 @@ use Rattle.power_cut.specs.Observer as observer
 use Rattle.qspi_calls.proofs.Phases.{words}
 use Rattle.power_cut.proofs.Driver.{Phase, draining, dropping, opening, lowering, switching, sending, starting, releasing, waiting, again, taking, closing, raising, leaving, sendNext, takeNext, phaseAfter, Stage, enables, programs, polls, clears, disables, transferOf, Ending, succeeded, failed, refuses, Driver, at, over, stateOf, Verdict, accepts, refusesWith, verdictOn, startOn, startNext, settled, stageAfter, driverAfter}
 use Rattle.power_cut.proofs.Fits.{Fit, Going, Good}
-
--- an access that was due
-pub data Matches : Want → Access → Type 0 where
-  m-read : {o v : ℕ} → Matches (reads o) (access.Read o v)
-  m-write : {o v : ℕ} → Matches (writes o v) (access.Write o v)
 
 -- ---- words on the wire
 

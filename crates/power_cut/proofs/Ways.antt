@@ -12,7 +12,7 @@ use Rattle.zynq7000.specs.Bits.{clear}
 use Rattle.zynq7000.specs.declared.qspi.Access.{Access}
 use Rattle.zynq7000.specs.declared.qspi.Access.the-variants as access
 use Rattle.qspi_transfer.specs.LowLevel.{chipSelectHigh, chipSelectLow, started}
-use Rattle.qspi_calls.specs.Machine.{Want, Transfer, Script, State, begin, want, next}
+use Rattle.qspi_operation.specs.Machine.{Want, Transfer, Script, State, begin, want, next, Matches, m-read, m-write}
 use Rattle.qspi_calls.specs.Calls.{zeros}
 use Rattle.qspi_calls.proofs.PromptLogs.{Plays, plays-none, plays-read, plays-write, plays-then}
 use Rattle.power_cut.specs.Flash.{Flash, busy, execute}
@@ -20,7 +20,7 @@ use Rattle.power_cut.specs.Controller.{registerAt, tx, bytesOut, high, D
 use Rattle.qspi_calls.proofs.Phases.{words}
 use Rattle.power_cut.proofs.Driver.{Phase, draining, dropping, opening, lowering, switching, sending, starting, releasing, waiting, again, taking, closing, raising, leaving, sendNext, takeNext, phaseAfter, inTransfer, transfer-next}
 use Rattle.power_cut.proofs.Levels.{high-put, high-clear, high-start, starts-put, starts-high, starts-low}
-use Rattle.power_cut.proofs.Watch.{Matches, m-read, m-write, flat}
+use Rattle.power_cut.proofs.Watch.{flat}
 use Rattle.power_cut.proofs.Control.{join, join-map, map-snoc, Up, Down, down-low, down-start, up-high}
 
 -- ---- ways of machine and device together

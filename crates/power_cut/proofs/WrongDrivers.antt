@@ -9,7 +9,7 @@ use native.Mathlib.Omega.{arith}
 use Rattle.zynq7000.specs.declared.qspi.Access.the-variants as access
 use Rattle.qspi_script.specs.declared.Status.the-variants.{Done, ProgrammingErrorBitSet}
 use Rattle.qspi_calls.specs.Chunks.{Chunk, Among, here}
-use Rattle.qspi_calls.specs.Machine.{ends, counts, exchange, Result, runs, called}
+use Rattle.qspi_operation.specs.Machine.{ends, counts, exchange, Result, runs, called}
 use Rattle.qspi_calls.specs.Calls.{enabling, statusReading, programming, settling, working}
 use Rattle.power_cut.specs.Flash.{flash, programOf, eraseOf, commandOf, byteAddress, landsFrom, lands, programmed, obey, execute, settles, AfterCut}
 use Rattle.power_cut.specs.Controller.{registerAt, bytesOut, isStatusRead, Device, device, flashOf, out, idle, configured, afterWrite, afterRead, effect, GivenBy, Gives, AllOut, Trace, still, quiet, step, rests}

@@ -6,7 +6,7 @@ use mathlib.Core.List.{List, _++_}
 use lib.ListN.{length}
 use Rattle.qspi_script.specs.declared.Status.the-variants.{Done}
 use Rattle.qspi_calls.specs.Chunks.{Chunk, chunks, Among}
-use Rattle.qspi_calls.specs.Machine.{called}
+use Rattle.qspi_operation.specs.Machine.{called}
 use Rattle.qspi_calls.specs.Calls.{writePages}
 use Rattle.power_cut.specs.Controller.{Device, AllOut, Trace}
 

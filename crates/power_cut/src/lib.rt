@@ -3,10 +3,11 @@
 ghost use mathlib.Core.Path.{_≡_};
 ghost use Prim.Native.Nat.{_/_};
 ghost use lib.ListN.{length};
-ghost use Rattle.qspi_calls.specs.Machine.{called, countIn};
+ghost use Rattle.qspi_operation.specs.Machine.{called};
+ghost use Rattle.qspi_operation.specs.Points.{answeredOf};
 ghost use Rattle.qspi_calls.specs.Calls as call;
-ghost use Rattle.qspi_calls.specs.Promise.{ranOf, loggedOf};
-ghost use Rattle.power_cut.specs.Promise.{Saved};
+ghost use Rattle.qspi_calls.specs.Promise.{loggedOf};
+ghost use Rattle.power_cut.specs.Promise.{Saved, answerOf};
 use qspi_calls::run;
 use qspi_calls::run::Ran;
 use qspi_calls::start;
@@ -18,8 +19,7 @@ pub struct PagesRan {
 }
 
 pub fn write_pages(addr: u32, data: &[u8], replies: &[u32], log: &mut [u32]) -> PagesRan
-    ensures ran { λ r. ⌜ r .ran ≡ ranOf (called (call.writePages addr (now («data» .entry))) (length (now (log .entry)) / 2) (now (replies .entry))) ⌝ }
-    ensures counted { λ r. ⌜ r .programmed ≡ countIn (called (call.writePages addr (now («data» .entry))) (length (now (log .entry)) / 2) (now (replies .entry)) .state) ⌝ }
+    ensures answer { λ r. ⌜ answerOf r ≡ answeredOf (called (call.writePages addr (now («data» .entry))) (length (now (log .entry)) / 2) (now (replies .entry))) ⌝ }
     ensures logged { λ r. ⌜ now (log .exit) ≡ loggedOf (called (call.writePages addr (now («data» .entry))) (length (now (log .entry)) / 2) (now (replies .entry))) (now (log .entry)) ⌝ }
     ensures cut { λ r. ⌜ Saved addr (now («data» .entry)) r (now (log .exit)) ⌝ }
 {

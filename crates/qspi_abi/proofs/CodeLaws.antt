@@ -11,7 +11,7 @@ use Rattle.zynq7000.specs.declared.qspi.BaudRateDivisor.the-variants as baud
 use Rattle.zynq7000.specs.declared.slcr.clocks.SrcSelIo.{SrcSelIo}
 use Rattle.zynq7000.specs.declared.slcr.clocks.SrcSelIo.the-variants.{IoPll, IoPllAlt, ArmPll, DdrPll}
 use Rattle.qspi_operation.proofs.Verdicts.{no}
-use Rattle.qspi_calls.specs.Machine.{Script, onward}
+use Rattle.qspi_operation.specs.Machine.{Script, onward}
 use Rattle.qspi_abi.specs.Codes.{sourceOf, divisorAt, fromSource}
 use Rattle.qspi_abi.specs.Numbers.{clockConfig}
 use Rattle.qspi_abi.specs.declared.QspiClockConfig.{QspiClockConfig}

@@ -1,8 +1,8 @@
 -- The numbers handed out are those of what the run promised. Assumes nothing.
 use Prim.Native.Nat.{ℕ, zero, suc, _+_, _*_, _/_, _%_}
 use mathlib.Core.Path.{_≡_, refl, sym, ap, _∙_}
-use mathlib.Core.Bool.{Bool, true, false, not, _||_}
-use mathlib.Core.List.{List}
+use mathlib.Core.Bool.{Bool, true, false, not, cond, _||_}
+use mathlib.Core.List.{List, []}
 use native.Mathlib.Omega.{arith}
 use lib.Dec.{ltb}
 use lib.ListN.{length, getD}
@@ -19,26 +19,33 @@ use Rattle.zynq7000_hal.specs.declared.qspi.BaudRateConfig.the-variants.{WithLo
 use Rattle.zynq7000_hal.specs.declared.qspi.ClockCalculation.the-variants.{Config}
 use Rattle.zynq7000_hal.specs.declared.qspi.ClockConfig.{ClockConfig}
 use Rattle.zynq7000_hal.specs.declared.qspi.QspiVendor.{QspiVendor}
-use Rattle.zedboard_bsp.specs.DeviceId.{baseBytes, extendedBytes, codeAnswer, interfaceCodes, densityCodes, sectorCodes}
+use Rattle.zedboard_bsp.specs.DeviceId.{baseBytes, extendedBytes, replyBytes, longReplyBytes, codeAnswer, interfaceCodes, densityCodes, sectorCodes}
 use Rattle.zedboard_bsp.specs.declared.qspi_spansion.device_id.BaseDeviceId.{BaseDeviceId}
 use Rattle.zedboard_bsp.specs.declared.qspi_spansion.device_id.ExtendedDeviceId.{ExtendedDeviceId}
-use Rattle.qspi_script.specs.Stages.{numberOf}
-use Rattle.qspi_script.specs.declared.Status.the-variants.{FieldTooWide}
-use Rattle.qspi_calls.specs.Machine.{Script, Result, runs, readsOf, called}
-use Rattle.qspi_calls.proofs.OneTransfer.{register-value}
-use Rattle.qspi_calls.proofs.Promised.{ran-of, register-of}
-use Rattle.qspi_calls.proofs.Whole.{Whole}
-use Rattle.qspi_operation.specs.Run.{Run}
-use Rattle.qspi_operation.specs.declared.Stepped.{Stepped}
+use Rattle.qspi_script.specs.Answer.{Answered, saidBy, numberIn, orElse, valuesIn}
+use Rattle.qspi_script.specs.declared.Number.{Number}
+use Rattle.qspi_script.specs.declared.Gives.{Gives}
+use Rattle.qspi_script.specs.declared.Gives.the-variants as gives
+use Rattle.qspi_script.specs.declared.Job.{Job}
 use Rattle.qspi_script.specs.declared.Status.{Status}
-use Rattle.qspi_transfer.specs.declared.Wire.{Wire}
+use Rattle.qspi_script.specs.declared.Status.the-variants.{Done, FieldTooWide}
+use Rattle.qspi_script.proofs.AnswerLaws.{number-alone, zero-is-done}
+use Rattle.qspi_operation.specs.declared.Op.{Op}
+use Rattle.qspi_operation.specs.declared.Stepped.{Stepped}
+use Rattle.qspi_operation.specs.Machine.{Script, runs, readsOf, called}
+use Rattle.qspi_operation.specs.Points.{answeredOf}
+use Rattle.qspi_operation.specs.Follows.{givenBy, answerBy, RunFollows}
+use Rattle.qspi_calls.specs.Begins.{Begins, BeginsWith}
 use Rattle.qspi_calls.specs.Calls as call
 use Rattle.qspi_calls.specs.declared.start.Latency.{Latency}
-use Rattle.qspi_calls.specs.Promise.{ranOf, handed, ended, Ended, valueOf, loggedOf, bufferedOf}
-use Rattle.qspi_calls.specs.declared.run.Ran.{Ran}
+use Rattle.qspi_calls.specs.Promise.{keptOf, loggedOf, Called}
+use Rattle.qspi_calls.proofs.Promised.{whole-call}
+use Rattle.qspi_calls.proofs.ValueLaws.{by-done}
+use Rattle.power_cut.specs.Promise.{answerOf as pagesAnswer}
 use Rattle.power_cut.specs.declared.PagesRan.{PagesRan}
 use Rattle.qspi_abi.specs.Codes as codes
-use Rattle.qspi_abi.specs.Numbers.{numbered, ran, withValue, withRegister, valued, pages, withId, withLongId, clockConfig}
+use Rattle.qspi_abi.specs.Numbers.{goingOn, answerNumber, ran, valued, pages, withId, identified, withLongId, identifiedAtLength, clockConfig, Commands, Reads}
+use Rattle.qspi_abi.specs.Numbers as numbers
 use Rattle.qspi_abi.specs.declared.QspiRan.{QspiRan}
 use Rattle.qspi_abi.specs.declared.QspiPagesRan.{QspiPagesRan}
 use Rattle.qspi_abi.specs.declared.QspiValueRan.{QspiValueRan}
@@ -48,41 +55,41 @@ use Rattle.qspi_abi.specs.declared.QspiClockConfig.{QspiClockConfig}
 use Rattle.qspi_abi.specs.declared.QspiPreset.{QspiPreset}
 use Rattle.qspi_abi.proofs.CodeLaws.{fits, fits-not}
 
+-- ---- the number of an answer
+
+pub number-is : (a : Status) {k : Number} {n : ℕ} → k ≡ numberIn (saidBy a []) → n ≡ orElse k goingOn → (vs : List ℕ) → n ≡ answerNumber (saidBy a vs)
+number-is a e f vs = f ∙ ap (λ (z : Number). orElse z goingOn) (e ∙ number-alone a [] vs)
+
+-- 0 is the number of a save that is done
+pub zero-done : (p : PagesRan) {q : QspiPagesRan} {n : ℕ} → q ≡ pages (pagesAnswer p) → (p .ran .answer ≡ Done → p .programmed ≡ n) → q .answer ≡ 0 → q .programmed ≡ n
+zero-done p e f z = ap (λ (x : QspiPagesRan). x .programmed) e ∙ f (zero-is-done (p .ran .answer) [] goingOn refl (sym (ap (λ (x : QspiPagesRan). x .answer) e) ∙ z))
+
 -- ---- runs
 
-pub plain : {r s : Ran} {q : QspiRan} → q ≡ numbered r → r ≡ s → q ≡ numbered s
-plain e₁ e₂ = e₁ ∙ ap numbered e₂
+-- a call that is lent replies and a log, in numbers
+module _ {o : Op} {log rs log₁ : List ℕ} {s : Stepped} (r : RunFollows o [] [] log rs s [] log₁) where
+  pub commanded : {q : QspiRan} → q ≡ ran (answerBy s) → Commands o log rs q log₁
+  commanded e c b = let w = whole-call c (record { bytes = []; buffer = []; room = length log }) b r refl refl in (e ∙ ap ran (w .answer), w .logged)
 
-pub value : {r s : Ran} {v w : ℕ} {q : QspiValueRan} → q ≡ withValue r v → r ≡ s → v ≡ w → q ≡ withValue s w
-value {s = s} {v = v} e₁ e₂ e₃ = e₁ ∙ ap (λ (z : Ran). withValue z v) e₂ ∙ ap (withValue s) e₃
+  pub giving : {q : QspiValueRan} → q ≡ valued (answerBy s) → numbers.Gives o log rs q log₁
+  giving e c b = let w = whole-call c (record { bytes = []; buffer = []; room = length log }) b r refl refl in (e ∙ ap valued (w .answer), w .logged)
 
--- a run of the code by counters, in its numbers, is what the script says where the script is met
-module _ {Values : Status → Wire → List ℕ} {e : Run} {log buffer log₁ : List ℕ} {r : Result} where
-  pub commanded : {q : QspiRan} → Whole Values e log buffer r → (q ≡ numbered (ended e)) × (log₁ ≡ e .log) → (q ≡ ran r) × (log₁ ≡ loggedOf r log)
-  commanded w p = (plain (p .0) (ran-of w), p .1 ∙ w .logged)
+-- one that is lent a buffer too
+pub reading : {o : Op} {buffer log rs buffer₁ log₁ : List ℕ} {s : Stepped} {q : QspiRan} → RunFollows o [] buffer log rs s buffer₁ log₁ → q ≡ ran (answerBy s) → Reads o buffer log rs q buffer₁ log₁
+reading {buffer = buffer} {log = log} r e c b = let w = whole-call c (record { bytes = []; buffer = buffer; room = length log }) (b buffer refl) r refl refl in (e ∙ ap ran (w .answer), (w .logged, w .stored))
 
-  pub buffered : {q : QspiRan} {buffer₁ : List ℕ} → Whole Values e log buffer r → (q ≡ numbered (ended e)) × ((log₁ ≡ e .log) × (buffer₁ ≡ e .buffer))
-      → (q ≡ ran r) × ((log₁ ≡ loggedOf r log) × (buffer₁ ≡ bufferedOf r buffer))
-  buffered w p = (plain (p .0) (ran-of w), (p .1 .0 ∙ w .logged, p .1 .1 ∙ w .stored))
-
-pub registered : {e : Run} {log buffer log₁ : List ℕ} {r : Result} {q : QspiValueRan} → Whole register-value e log buffer r → (q ≡ withRegister e) × (log₁ ≡ e .log) → (q ≡ valued r) × (log₁ ≡ loggedOf r log)
-registered {e} {r = r} w p = (value (p .0) (ran-of w) (register-of (e .answer) (e .op .wire) r (w .values)), p .1 ∙ w .logged)
+-- and one that is lent data
+pub programmed : (c : List ℕ → Script) {o : Op} {bytes log rs buffer₁ log₁ : List ℕ} {s : Stepped} {q : QspiRan} → BeginsWith (length bytes) (length log) c o → RunFollows o bytes [] log rs s buffer₁ log₁ → q ≡ ran (answerBy s)
+    → (q ≡ ran (answeredOf (called (c bytes) (length log / 2) rs))) × (log₁ ≡ loggedOf (called (c bytes) (length log / 2) rs) log)
+programmed c {bytes = bytes} {log = log} b r e = let w = whole-call (c bytes) (record { bytes = bytes; buffer = []; room = length log }) (b bytes refl) r refl refl in (e ∙ ap ran (w .answer), w .logged)
 
 -- `new` with the latency that was asked for
 pub new : (quad clear : Bool) (log₀ log₁ rs : List ℕ) {l m : Latency} {q : QspiRan} → l ≡ m
-    → (q ≡ ran (called (call.newCall (record { «set_quad_bit_if_necessary» = quad; «latency_config» = l; «clear_write_protection» = clear })) (length log₀ / 2) rs))
+    → (q ≡ ran (answeredOf (called (call.newCall (record { «set_quad_bit_if_necessary» = quad; «latency_config» = l; «clear_write_protection» = clear })) (length log₀ / 2) rs)))
     × (log₁ ≡ loggedOf (called (call.newCall (record { «set_quad_bit_if_necessary» = quad; «latency_config» = l; «clear_write_protection» = clear })) (length log₀ / 2) rs) log₀)
-    → (q ≡ ran (called (call.newCall (record { «set_quad_bit_if_necessary» = quad; «latency_config» = m; «clear_write_protection» = clear })) (length log₀ / 2) rs))
+    → (q ≡ ran (answeredOf (called (call.newCall (record { «set_quad_bit_if_necessary» = quad; «latency_config» = m; «clear_write_protection» = clear })) (length log₀ / 2) rs)))
     × (log₁ ≡ loggedOf (called (call.newCall (record { «set_quad_bit_if_necessary» = quad; «latency_config» = m; «clear_write_protection» = clear })) (length log₀ / 2) rs) log₀)
 new quad clear log₀ log₁ rs e p = rw (← e) p
-
--- what the code hands back at the end of a run
-pub handed-of : {s : Stepped} {log₁ : List ℕ} {e : Run} → Ended s log₁ e → handed s ≡ ended e
-handed-of n = rw (n .answer, n .op)
-
-pub saved-pages : {p : PagesRan} {s : Ran} {n : ℕ} {q : QspiPagesRan} → q ≡ pages p → p .ran ≡ s → p .programmed ≡ n → q ≡ pages (record { ran = s; programmed = n })
-saved-pages {p} {s} e₁ e₂ e₃ =
-    e₁ ∙ ap (λ (z : Ran). pages (record { ran = z; programmed = p .programmed })) e₂ ∙ ap (λ (z : ℕ). pages (record { ran = s; programmed = z })) e₃
 
 -- ---- `initialize`
 
@@ -91,28 +98,28 @@ configOf s d loopback b = record { «src_sel» = codes.sourceOf s; «ref_clk_div
 
 pub initialized : (s d : ℕ) (loopback : Bool) (b : ℕ) (phase polarity : Bool) (log₀ log₁ rs : List ℕ) {c : ClockConfig} {q : QspiValueRan}
     → not (ltb 3 s || ltb 7 b) ≡ true → c ≡ configOf s d loopback b
-    → (q ≡ valued (called (call.initialize c phase polarity) (length log₀ / 2) rs)) × (log₁ ≡ loggedOf (called (call.initialize c phase polarity) (length log₀ / 2) rs) log₀)
-    → (q ≡ valued (called (codes.initialize s d loopback b phase polarity) (length log₀ / 2) rs)) × (log₁ ≡ loggedOf (called (codes.initialize s d loopback b phase polarity) (length log₀ / 2) rs) log₀)
+    → (q ≡ valued (answeredOf (called (call.initialize c phase polarity) (length log₀ / 2) rs))) × (log₁ ≡ loggedOf (called (call.initialize c phase polarity) (length log₀ / 2) rs) log₀)
+    → (q ≡ valued (answeredOf (called (codes.initialize s d loopback b phase polarity) (length log₀ / 2) rs))) × (log₁ ≡ loggedOf (called (codes.initialize s d loopback b phase polarity) (length log₀ / 2) rs) log₀)
 initialized s d loopback b phase polarity log₀ log₁ rs {c} h e p =
     let f : call.initialize c phase polarity ≡ codes.initialize s d loopback b phase polarity = ap (λ (z : ClockConfig). call.initialize z phase polarity) e ∙ sym (fits (ltb 3 s || ltb 7 b) (call.refused FieldTooWide) (call.initialize (configOf s d loopback b) phase polarity) h) in (
-      p .0 ∙ ap (λ (z : Script). valued (called z (length log₀ / 2) rs)) f,
+      p .0 ∙ ap (λ (z : Script). valued (answeredOf (called z (length log₀ / 2) rs))) f,
       p .1 ∙ ap (λ (z : Script). loggedOf (called z (length log₀ / 2) rs) log₀) f,
     )
 
 abbrev tooWide : QspiValueRan
 tooWide = record { answer = 12; value = 0; used = 0; replies = 0 }
 
-refused-at : (n : ℕ) (log rs : List ℕ) → (tooWide ≡ valued (called (call.refused FieldTooWide) n rs)) × (log ≡ loggedOf (called (call.refused FieldTooWide) n rs) log)
+refused-at : (n : ℕ) (log rs : List ℕ) → (tooWide ≡ valued (answeredOf (called (call.refused FieldTooWide) n rs))) × (log ≡ loggedOf (called (call.refused FieldTooWide) n rs) log)
 unfolding runs readsOf encode
 refused-at zero log rs = (refl, refl)
 refused-at (suc n) log rs = (refl, refl)
 
 pub refused : (s d : ℕ) (loopback : Bool) (b : ℕ) (phase polarity : Bool) (log rs : List ℕ) → not (ltb 3 s || ltb 7 b) ≡ false
-    → (tooWide ≡ valued (called (codes.initialize s d loopback b phase polarity) (length log / 2) rs)) × (log ≡ loggedOf (called (codes.initialize s d loopback b phase polarity) (length log / 2) rs) log)
+    → (tooWide ≡ valued (answeredOf (called (codes.initialize s d loopback b phase polarity) (length log / 2) rs))) × (log ≡ loggedOf (called (codes.initialize s d loopback b phase polarity) (length log / 2) rs) log)
 refused s d loopback b phase polarity log rs h =
     let f : call.refused FieldTooWide ≡ codes.initialize s d loopback b phase polarity = sym (fits-not (ltb 3 s || ltb 7 b) (call.refused FieldTooWide) (call.initialize (configOf s d loopback b) phase polarity) h) in
     let y = refused-at (length log / 2) log rs in (
-      y .0 ∙ ap (λ (z : Script). valued (called z (length log / 2) rs)) f,
+      y .0 ∙ ap (λ (z : Script). valued (answeredOf (called z (length log / 2) rs))) f,
       y .1 ∙ ap (λ (z : Script). loggedOf (called z (length log / 2) rs) log) f,
     )
 
@@ -121,22 +128,44 @@ refused s d loopback b phase polarity log rs h =
 joined : (n : ℕ) → n ≡ n / 256 * 256 + n % 256
 joined n = omega arith
 
-pub base-id : (r : Ran) (i : BaseDeviceId) {a m d t n : ℕ} {x y : Answer} → a ≡ numberOf (r .answer) → m ≡ i .«manufacturer_id» → d ≡ i .«device_id» → x ≡ codeAnswer interfaceCodes (i .«device_id» / 256) → t ≡ x .number
+pub base-id : (s : Stepped) (i : BaseDeviceId) {a m d t n : ℕ} {x y : Answer} → ((vs : List ℕ) → a ≡ answerNumber (saidBy (s .answer) vs)) → m ≡ i .«manufacturer_id» → d ≡ i .«device_id» → x ≡ codeAnswer interfaceCodes (i .«device_id» / 256) → t ≡ x .number
     → y ≡ codeAnswer densityCodes (i .«device_id» % 256) → n ≡ y .number
-    → _≡_ {A = QspiIdRan} (record { answer = a; «manufacturer_id» = m; «device_id» = d; «memory_interface_type» = t; density = n; used = r .used; replies = r .replies }) (withId r (baseBytes i))
-base-id r i e₁ e₂ e₃ e₄ e₅ e₆ e₇ = rw (e₁, e₂, e₃ ∙ joined (i .«device_id»), e₅, e₄, e₇, e₆)
+    → _≡_ {A = QspiIdRan} (record { answer = a; «manufacturer_id» = m; «device_id» = d; «memory_interface_type» = t; density = n; used = s .op .used; replies = s .op .replies }) (withId (answerBy s) (baseBytes i))
+base-id s i e₁ e₂ e₃ e₄ e₅ e₆ e₇ = rw (e₁ (givenBy (s .op)), e₂, e₃ ∙ joined (i .«device_id»), e₅, e₄, e₇, e₆)
 
-pub long-id : (r : Ran) (i : ExtendedDeviceId) {a m d t n l s k f w : ℕ} {j : BaseDeviceId} {b : List ℕ} {x y z : Answer} → a ≡ numberOf (r .answer) → j ≡ i .base → b ≡ i .«model_number» → m ≡ j .«manufacturer_id» → d ≡ j .«device_id» → x ≡ codeAnswer interfaceCodes (j .«device_id» / 256) → t ≡ x .number
+pub long-id : (p : Stepped) (i : ExtendedDeviceId) {a m d t n l s k f w : ℕ} {j : BaseDeviceId} {b : List ℕ} {x y z : Answer} → ((vs : List ℕ) → a ≡ answerNumber (saidBy (p .answer) vs)) → j ≡ i .base → b ≡ i .«model_number» → m ≡ j .«manufacturer_id» → d ≡ j .«device_id» → x ≡ codeAnswer interfaceCodes (j .«device_id» / 256) → t ≡ x .number
     → y ≡ codeAnswer densityCodes (j .«device_id» % 256) → n ≡ y .number → l ≡ i .«id_cfi_len» → s ≡ i .«sector_arch» → z ≡ codeAnswer sectorCodes (i .«sector_arch») → k ≡ z .number → f ≡ i .«family_id» → w ≡ getD b 0 0 * 256 + getD b 1 0
-    → _≡_ {A = QspiLongIdRan} (record { answer = a; «manufacturer_id» = m; «device_id» = d; «memory_interface_type» = t; density = n; «id_cfi_len» = l; «sector_arch_raw» = s; «sector_arch» = k; «family_id» = f; «model_number» = w; used = r .used; replies = r .replies }) (withLongId r (extendedBytes i))
-long-id r i {j = j} e₁ e₂ e₃ e₄ e₅ e₆ e₇ e₈ e₉ e₁₀ e₁₁ e₁₂ e₁₃ e₁₄ e₁₅ =
-    rw (e₁, e₄, e₅ ∙ joined (j .«device_id»), e₇, e₆, e₉, e₈, e₁₀, e₁₁, e₁₃, e₁₂, e₁₄, e₁₅, e₃, e₂)
+    → _≡_ {A = QspiLongIdRan} (record { answer = a; «manufacturer_id» = m; «device_id» = d; «memory_interface_type» = t; density = n; «id_cfi_len» = l; «sector_arch_raw» = s; «sector_arch» = k; «family_id» = f; «model_number» = w; used = p .op .used; replies = p .op .replies }) (withLongId (answerBy p) (extendedBytes i))
+long-id p i {j = j} e₁ e₂ e₃ e₄ e₅ e₆ e₇ e₈ e₉ e₁₀ e₁₁ e₁₂ e₁₃ e₁₄ e₁₅ =
+    rw (e₁ (givenBy (p .op)), e₄, e₅ ∙ joined (j .«device_id»), e₇, e₆, e₉, e₈, e₁₀, e₁₁, e₁₃, e₁₂, e₁₄, e₁₅, e₃, e₂)
 
-pub identity : {r s : Ran} {bs cs : List ℕ} {q : QspiIdRan} → q ≡ withId r bs → r ≡ s → bs ≡ cs → q ≡ withId s cs
-identity {s = s} {bs = bs} e₁ e₂ e₃ = e₁ ∙ ap (λ (z : Ran). withId z bs) e₂ ∙ ap (withId s) e₃
+-- an id that is not given yet is zeros, as its numbers are
+id-zeros : (a : Status) (x : ℕ) (w : Answered) → withId w (replyBytes (keptOf a x)) ≡ withId w (valuesIn (saidBy a (replyBytes x)))
+id-zeros a x w = by-done a (λ (b : Bool) (f : List ℕ → List ℕ). withId w (replyBytes (cond b x 0)) ≡ withId w (f (replyBytes x))) refl refl
 
-pub long-identity : {r s : Ran} {bs cs : List ℕ} {q : QspiLongIdRan} → q ≡ withLongId r bs → r ≡ s → bs ≡ cs → q ≡ withLongId s cs
-long-identity {s = s} {bs = bs} e₁ e₂ e₃ = e₁ ∙ ap (λ (z : Ran). withLongId z bs) e₂ ∙ ap (withLongId s) e₃
+long-id-zeros : (a : Status) (x y z : ℕ) (w : Answered) → withLongId w (longReplyBytes (keptOf a x) (keptOf a y) (keptOf a z)) ≡ withLongId w (valuesIn (saidBy a (longReplyBytes x y z)))
+long-id-zeros a x y z w = by-done a (λ (b : Bool) (f : List ℕ → List ℕ). withLongId w (longReplyBytes (cond b x 0) (cond b y 0) (cond b z 0)) ≡ withLongId w (f (longReplyBytes x y z))) refl refl
+
+-- the operation at the end of a run still gives what its call gives
+gives-still : {g : Gives} (o : Op) (s : Stepped) → o .job .script .gives ≡ g → s .op .job ≡ o .job → s .op .job .script .gives ≡ g
+gives-still o s e f = ap (λ (z : Job). z .script .gives) f ∙ e
+
+module _ (c : Script) {o : Op} {log rs log₁ : List ℕ} {s : Stepped} (b : Begins (length log) c o) (r : RunFollows o [] [] log rs s [] log₁ × (s .op .job ≡ o .job)) where
+  abbrev all-of-it : Called c log [] rs s [] log₁
+  all-of-it = whole-call c (record { bytes = []; buffer = []; room = length log }) b (r .0) refl refl
+
+  pub identity : {bs : List ℕ} {q : QspiIdRan} → o .job .script .gives ≡ gives.Id → q ≡ withId (answerBy s) bs → bs ≡ replyBytes (keptOf (s .answer) (s .op .wire .last))
+      → (q ≡ identified (answeredOf (called c (length log / 2) rs))) × (log₁ ≡ loggedOf (called c (length log / 2) rs) log)
+  identity g e f =
+      let y : givenBy (s .op) ≡ replyBytes (s .op .wire .last) = rw (gives-still o s g (r .1)) in
+      (e ∙ ap (withId (answerBy s)) f ∙ id-zeros (s .answer) (s .op .wire .last) (answerBy s) ∙ ap (λ (z : List ℕ). withId (answerBy s) (valuesIn (saidBy (s .answer) z))) (sym y) ∙ ap identified (all-of-it .answer), all-of-it .logged)
+
+  pub long-identity : {bs : List ℕ} {q : QspiLongIdRan} → o .job .script .gives ≡ gives.LongId → q ≡ withLongId (answerBy s) bs
+      → bs ≡ longReplyBytes (keptOf (s .answer) (s .op .wire .older)) (keptOf (s .answer) (s .op .wire .old)) (keptOf (s .answer) (s .op .wire .last))
+      → (q ≡ identifiedAtLength (answeredOf (called c (length log / 2) rs))) × (log₁ ≡ loggedOf (called c (length log / 2) rs) log)
+  long-identity g e f =
+      let y : givenBy (s .op) ≡ longReplyBytes (s .op .wire .older) (s .op .wire .old) (s .op .wire .last) = rw (gives-still o s g (r .1)) in
+      (e ∙ ap (withLongId (answerBy s)) f ∙ long-id-zeros (s .answer) (s .op .wire .older) (s .op .wire .old) (s .op .wire .last) (answerBy s) ∙ ap (λ (z : List ℕ). withLongId (answerBy s) (valuesIn (saidBy (s .answer) z))) (sym y) ∙ ap identifiedAtLength (all-of-it .answer), all-of-it .logged)
 
 -- ---- clocks and presets
 

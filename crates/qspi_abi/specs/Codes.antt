@@ -20,7 +20,7 @@ use Rattle.zynq7000_hal.specs.declared.qspi.QspiVendor.the-variants.{WinbondAnd
 use Rattle.qspi_script.specs.declared.Status.the-variants.{FieldTooWide}
 use Rattle.qspi_calls.specs.declared.start.Latency.{Latency}
 use Rattle.qspi_calls.specs.declared.start.Latency.the-variants.{AsRead, Code}
-use Rattle.qspi_calls.specs.Machine.{Script, onward}
+use Rattle.qspi_operation.specs.Machine.{Script, onward}
 use Rattle.qspi_calls.specs.Calls as call
 
 -- the sources by their codes, 0 to 3 (`source-of` in proofs/CodeLaws: each source has its own code)

@@ -1,16 +1,16 @@
 -- What an exported function answers, as numbers: document 01's number of the answer, 0 where the call is done, and the used counts.
-use Prim.Native.Nat.{ℕ, _+_, _*_}
+use Prim.Native.Nat.{ℕ, _+_, _*_, _/_}
+use mathlib.Core.Path.{_≡_}
 use mathlib.Core.List.{List}
-use lib.ListN.{getD}
+use lib.ListN.{length, getD}
 use Rattle.zynq7000.specs.Number.{Answer}
-use Rattle.zedboard_bsp.specs.DeviceId.{replyBytes, longReplyBytes, codeAnswer, interfaceCodes, densityCodes, sectorCodes}
-use Rattle.zedboard_bsp.specs.Words.{topByte}
-use Rattle.qspi_script.specs.Stages.{numberOf}
-use Rattle.qspi_operation.specs.Run.{Run}
-use Rattle.qspi_calls.specs.Machine.{Result, countIn}
-use Rattle.qspi_calls.specs.Promise.{ranOf, ended, keptOf, valueOf, idOf}
-use Rattle.qspi_calls.specs.declared.run.Ran.{Ran}
-use Rattle.power_cut.specs.declared.PagesRan.{PagesRan}
+use Rattle.zedboard_bsp.specs.DeviceId.{codeAnswer, interfaceCodes, densityCodes, sectorCodes}
+use Rattle.qspi_script.specs.Answer.{Said, Answered, numberIn, orElse, valuesIn}
+use Rattle.qspi_operation.specs.declared.Op.{Op}
+use Rattle.qspi_operation.specs.Machine.{Script, called}
+use Rattle.qspi_operation.specs.Points.{answeredOf}
+use Rattle.qspi_calls.specs.Begins.{Begins, BeginsInto}
+use Rattle.qspi_calls.specs.Promise.{oneOf, loggedOf, bufferedOf}
 use Rattle.qspi_abi.specs.declared.QspiRan.{QspiRan}
 use Rattle.qspi_abi.specs.declared.QspiPagesRan.{QspiPagesRan}
 use Rattle.qspi_abi.specs.declared.QspiValueRan.{QspiValueRan}
@@ -19,53 +19,51 @@ use Rattle.qspi_abi.specs.declared.QspiLongIdRan.{QspiLongIdRan}
 use Rattle.qspi_abi.specs.declared.QspiClockConfig.{QspiClockConfig}
 use Rattle.qspi_abi.specs.declared.QspiPreset.{QspiPreset}
 
-abbrev pub numbered : Ran → QspiRan
-numbered r = record { answer = numberOf (r .answer); used = r .used; replies = r .replies }
+-- 01's number of an answer, 0 only where the call is done. A call that goes on has none; it would have this one, and no run ends so (`ends` of `OnRun`)
+abbrev pub goingOn : ℕ
+goingOn = 0xFFFFFFFF
 
-abbrev pub ran : Result → QspiRan
-ran r = numbered (ranOf r)
+abbrev pub answerNumber : Said → ℕ
+answerNumber s = orElse (numberIn s) goingOn
 
-abbrev pub withValue : Ran → ℕ → QspiValueRan
-withValue r v = record { answer = numberOf (r .answer); value = v; used = r .used; replies = r .replies }
+abbrev pub ran : Answered → QspiRan
+ran a = record { answer = answerNumber (a .says); used = a .used; replies = a .replies }
 
-abbrev pub valued : Result → QspiValueRan
-valued r = withValue (ranOf r) (valueOf r)
+-- with the value of the answer; 0 where it has none
+abbrev pub withValue : Answered → ℕ → QspiValueRan
+withValue a v = record { answer = answerNumber (a .says); value = v; used = a .used; replies = a .replies }
 
--- a register's byte after a run of the code by counters: the reply's top byte, 0 where the call is not done
-abbrev pub withRegister : Run → QspiValueRan
-withRegister e = withValue (ended e) (topByte (keptOf (e .answer) (e .op .wire .last)))
+abbrev pub valued : Answered → QspiValueRan
+valued a = withValue a (oneOf (valuesIn (a .says)))
 
-abbrev pub pages : PagesRan → QspiPagesRan
-pages p = record { answer = numberOf (p .ran .answer); programmed = p .programmed; used = p .ran .used; replies = p .ran .replies }
-
-abbrev pub pagesRan : Result → PagesRan
-pagesRan r = record { ran = ranOf r; programmed = countIn (r .state) }
+abbrev pub pages : Answered → QspiPagesRan
+pages a = record { answer = answerNumber (a .says); programmed = a .programmed; used = a .used; replies = a .replies }
 
 -- the byte at a place of an id
 abbrev pub byteAt : List ℕ → ℕ → ℕ
 byteAt bs i = getD bs i 0
 
 -- "manufacturer, memory interface type, density": the device id is the last two, high byte first
-abbrev pub withId : Ran → List ℕ → QspiIdRan
-withId r bs =
+abbrev pub withId : Answered → List ℕ → QspiIdRan
+withId a bs =
     record {
-      answer = numberOf (r .answer);
+      answer = answerNumber (a .says);
       «manufacturer_id» = byteAt bs 0;
       «device_id» = byteAt bs 1 * 256 + byteAt bs 2;
       «memory_interface_type» = codeAnswer interfaceCodes (byteAt bs 1) .number;
       density = codeAnswer densityCodes (byteAt bs 2) .number;
-      used = r .used;
-      replies = r .replies;
+      used = a .used;
+      replies = a .replies;
     }
 
-abbrev pub identified : Result → QspiIdRan
-identified r = withId (ranOf r) (idOf (replyBytes 0) r)
+abbrev pub identified : Answered → QspiIdRan
+identified a = withId a (valuesIn (a .says))
 
 -- then the length of the rest, the sector architecture, the family and the model number, high byte first
-abbrev pub withLongId : Ran → List ℕ → QspiLongIdRan
-withLongId r bs =
+abbrev pub withLongId : Answered → List ℕ → QspiLongIdRan
+withLongId a bs =
     record {
-      answer = numberOf (r .answer);
+      answer = answerNumber (a .says);
       «manufacturer_id» = byteAt bs 0;
       «device_id» = byteAt bs 1 * 256 + byteAt bs 2;
       «memory_interface_type» = codeAnswer interfaceCodes (byteAt bs 1) .number;
@@ -75,12 +73,12 @@ withLongId r bs =
       «sector_arch» = codeAnswer sectorCodes (byteAt bs 4) .number;
       «family_id» = byteAt bs 5;
       «model_number» = byteAt bs 6 * 256 + byteAt bs 7;
-      used = r .used;
-      replies = r .replies;
+      used = a .used;
+      replies = a .replies;
     }
 
-abbrev pub identifiedAtLength : Result → QspiLongIdRan
-identifiedAtLength r = withLongId (ranOf r) (idOf (longReplyBytes 0 0 0) r)
+abbrev pub identifiedAtLength : Answered → QspiLongIdRan
+identifiedAtLength a = withLongId a (valuesIn (a .says))
 
 -- the values of a clock configuration in their order, zeros where it is refused
 abbrev pub clockConfig : Answer → QspiClockConfig
@@ -95,3 +93,17 @@ clockConfig a =
 
 abbrev pub linearConfig : Answer → QspiPreset
 linearConfig a = record { answer = a .number; value = getD (a .values) 0 0 }
+
+-- ---- what the functions that exports share promise: of whatever call the operation begins, its run in numbers, and the lent memory
+
+abbrev pub Commands : Op → List ℕ → List ℕ → QspiRan → List ℕ → Type 0
+Commands o log replies r log₁ = (c : Script) → Begins (length log) c o → (r ≡ ran (answeredOf (called c (length log / 2) replies))) × (log₁ ≡ loggedOf (called c (length log / 2) replies) log)
+
+abbrev pub Gives : Op → List ℕ → List ℕ → QspiValueRan → List ℕ → Type 0
+Gives o log replies r log₁ = (c : Script) → Begins (length log) c o → (r ≡ valued (answeredOf (called c (length log / 2) replies))) × (log₁ ≡ loggedOf (called c (length log / 2) replies) log)
+
+abbrev pub Reads : Op → List ℕ → List ℕ → List ℕ → QspiRan → List ℕ → List ℕ → Type 0
+Reads o buffer log replies r buffer₁ log₁ =
+    (c : Script) → BeginsInto (length buffer) (length log) c o
+    → (r ≡ ran (answeredOf (called c (length log / 2) replies)))
+    × ((log₁ ≡ loggedOf (called c (length log / 2) replies) log) × (buffer₁ ≡ bufferedOf (called c (length log / 2) replies) buffer))

@@ -2,40 +2,39 @@
 // out. `include/qspi.h` declares these functions and says what the numbers are. Each runs one call from
 // its start to its end over the replies and the log lent; any input gets an answer.
 ghost use mathlib.Core.Path.{_≡_};
-ghost use mathlib.Core.Bool.{true, false, cond};
-ghost use Prim.Native.Nat.{_/_};
-ghost use lib.Dec.{ltb};
+ghost use mathlib.Core.Bool.{true, false};
+ghost use Prim.Native.Nat.{ℕ, _/_};
 ghost use lib.ListN.{length};
-ghost use mathlib.Core.List.{[]};
+ghost use mathlib.Core.List.{List, []};
 ghost use Rattle.zynq7000_hal.specs.Clocks.{answerOf, calculateAnswer, loopbackAnswer};
 ghost use Rattle.zynq7000_hal.specs.declared.qspi.ClockCalculation.the-variants as calculation;
 ghost use Rattle.zynq7000.specs.Qspi.{linearWord};
-ghost use Rattle.zynq7000.specs.Slcr.{sourceCode, clockControlWord};
 ghost use Rattle.zynq7000_hal.specs.Presets.{preset as presetWords};
 ghost use Rattle.zedboard_bsp.specs.DeviceId.{baseBytes, extendedBytes, replyBytes, longReplyBytes};
-ghost use Rattle.qspi_operation.specs.Run.{runOf};
-ghost use Rattle.qspi_calls.specs.Machine.{called};
+ghost use Rattle.qspi_script.specs.Answer.{saidBy};
+ghost use Rattle.qspi_operation.specs.Points.{answeredOf};
+ghost use Rattle.qspi_operation.specs.Follows.{answerBy};
+ghost use Rattle.qspi_operation.specs.Machine.{called};
 ghost use Rattle.qspi_calls.specs.Calls as call;
-ghost use Rattle.qspi_calls.specs.Promise.{nothing, ended, keptOf, loggedOf, bufferedOf};
+ghost use Rattle.qspi_calls.specs.Promise.{keptOf, loggedOf, bufferedOf};
+ghost use Rattle.power_cut.specs.Promise.{answerOf as pagesAnswer};
 ghost use Rattle.qspi_abi.specs.Codes as codes;
 ghost use Rattle.qspi_abi.specs.Numbers as numbers;
 ghost use Rattle.qspi_abi.specs.Saved.{SavedNumbers};
 use power_cut::PagesRan;
 use qspi_calls::run;
-use qspi_calls::run::Ran;
 use qspi_calls::start;
 use qspi_calls::start::Config;
 use qspi_operation::Op;
 use qspi_operation::Stepped;
+use qspi_script::Status;
 use zedboard_bsp::qspi_spansion::device_id::BaseDeviceId;
 use zedboard_bsp::qspi_spansion::device_id::ExtendedDeviceId;
-use zedboard_bsp::qspi_spansion::words;
 use zynq7000::qspi::InstructionCode;
 use zynq7000_hal::clocks::Clocks;
 use zynq7000_hal::qspi;
 use zynq7000_hal::qspi::ClockCalculation;
 use zynq7000_hal::qspi::ClockConfig;
-use zynq7000_hal::qspi::Initialization;
 use zynq7000_hal::qspi::QspiDeviceCombination;
 
 mod codes;
@@ -105,37 +104,49 @@ pub struct QspiPreset {
     pub value: u32,
 }
 
-// The numbers of an answer.
-fn ran_out(ran: Ran) -> QspiRan
-    ensures numbers { λ r. ⌜ r ≡ numbers.numbered ran ⌝ }
+// Stands for the number of a call that goes on; no run ends so.
+const GOES_ON: u32 = 0xFFFF_FFFF;
+
+// The number of an answer, whatever its values.
+fn number_of(answer: Status) -> u32
+    ensures number { λ r. ⌜ ((vs : List ℕ) → r ≡ numbers.answerNumber (saidBy answer vs)) ⌝ }
 {
-    let answer = ran.answer;
+    let number = answer.number();
+    number.unwrap_or(GOES_ON)
+}
+
+fn ran_out(s: Stepped) -> QspiRan
+    ensures numbers { λ r. ⌜ r ≡ numbers.ran (answerBy s) ⌝ }
+{
+    let answer = s.answer;
+    let op = s.op;
     QspiRan {
-        answer: answer.number(),
-        used: ran.used,
-        replies: ran.replies,
+        answer: number_of(answer),
+        used: op.used,
+        replies: op.replies,
     }
 }
 
-fn value_out(ran: Ran, value: u32) -> QspiValueRan
-    ensures numbers { λ r. ⌜ r ≡ numbers.withValue ran value ⌝ }
+fn value_out(s: Stepped) -> QspiValueRan
+    ensures numbers { λ r. ⌜ r ≡ numbers.valued (answerBy s) ⌝ }
 {
-    let answer = ran.answer;
+    let answer = s.answer;
+    let op = s.op;
     QspiValueRan {
-        answer: answer.number(),
-        value,
-        used: ran.used,
-        replies: ran.replies,
+        answer: number_of(answer),
+        value: run::value(s),
+        used: op.used,
+        replies: op.replies,
     }
 }
 
 fn pages_out(pages: PagesRan) -> QspiPagesRan
-    ensures numbers { λ r. ⌜ r ≡ numbers.pages pages ⌝ }
+    ensures numbers { λ r. ⌜ r ≡ numbers.pages (pagesAnswer pages) ⌝ }
 {
     let ran = pages.ran;
     let answer = ran.answer;
     QspiPagesRan {
-        answer: answer.number(),
+        answer: number_of(answer),
         programmed: pages.programmed,
         used: ran.used,
         replies: ran.replies,
@@ -144,33 +155,24 @@ fn pages_out(pages: PagesRan) -> QspiPagesRan
 
 // A call that is lent replies and a log, from its start to its end.
 fn command(op: Op, replies: &[u32], log: &mut [u32]) -> QspiRan
-    ensures ran { λ r. ⌜ r ≡ numbers.numbered (ended (runOf op nothing (now (replies .entry)) nothing (now (log .entry)))) ⌝ }
-    ensures logged { λ r. ⌜ now (log .exit) ≡ runOf op nothing (now (replies .entry)) nothing (now (log .entry)) .log ⌝ }
+    ensures called { λ r. ⌜ numbers.Commands op (now (log .entry)) (now (replies .entry)) r (now (log .exit)) ⌝ }
 {
-    ran_out(run::finish(run::command(op, replies, log)))
+    ran_out(run::command(op, replies, log))
 }
 
-// One that reads a register of the chip.
-fn register(op: Op, replies: &[u32], log: &mut [u32]) -> QspiValueRan
-    ensures ran { λ r. ⌜ r ≡ numbers.withRegister (runOf op nothing (now (replies .entry)) nothing (now (log .entry))) ⌝ }
-    ensures logged { λ r. ⌜ now (log .exit) ≡ runOf op nothing (now (replies .entry)) nothing (now (log .entry)) .log ⌝ }
+// One that gives a number: a register of the chip, or the SLCR clock word.
+fn valued(op: Op, replies: &[u32], log: &mut [u32]) -> QspiValueRan
+    ensures called { λ r. ⌜ numbers.Gives op (now (log .entry)) (now (replies .entry)) r (now (log .exit)) ⌝ }
 {
-    let s = run::command(op, replies, log);
-    let end = s.op;
-    let wire = end.wire;
-    let answer = s.answer;
-    let value = words::top_byte(run::kept(answer, wire.last));
-    value_out(run::finish(s), value as u32)
+    value_out(run::command(op, replies, log))
 }
 
 // One that is lent a buffer too.
 fn read(op: Op, buffer: &mut [u8], replies: &[u32], log: &mut [u32]) -> QspiRan
-    ensures ran { λ r. ⌜ r ≡ numbers.numbered (ended (runOf op nothing (now (replies .entry)) (now (buffer .entry)) (now (log .entry)))) ⌝ }
-    ensures logged { λ r. ⌜ now (log .exit) ≡ runOf op nothing (now (replies .entry)) (now (buffer .entry)) (now (log .entry)) .log ⌝ }
-    ensures stored { λ r. ⌜ now (buffer .exit) ≡ runOf op nothing (now (replies .entry)) (now (buffer .entry)) (now (log .entry)) .buffer ⌝ }
+    ensures called { λ r. ⌜ numbers.Reads op (now (buffer .entry)) (now (log .entry)) (now (replies .entry)) r (now (buffer .exit)) (now (log .exit)) ⌝ }
 {
     let data = [0u8; 0];
-    ran_out(run::finish(qspi_operation::run(op, &data, buffer, log, replies)))
+    ran_out(qspi_operation::run(op, &data, buffer, log, replies))
 }
 
 // The id that the replies carry, where the call is done.
@@ -196,29 +198,31 @@ fn long_id_of(s: Stepped) -> ExtendedDeviceId
     )
 }
 
-fn id_out(ran: Ran, id: BaseDeviceId) -> QspiIdRan
-    ensures numbers { λ r. ⌜ r ≡ numbers.withId ran (baseBytes id) ⌝ }
+fn id_out(s: Stepped, id: BaseDeviceId) -> QspiIdRan
+    ensures numbers { λ r. ⌜ r ≡ numbers.withId (answerBy s) (baseBytes id) ⌝ }
 {
-    let answer = ran.answer;
+    let answer = s.answer;
+    let op = s.op;
     QspiIdRan {
-        answer: answer.number(),
+        answer: number_of(answer),
         manufacturer_id: id.manufacturer_id() as u32,
         device_id: id.device_id_raw() as u32,
         memory_interface_type: codes::interface_number(id.memory_interface_type()),
         density: codes::density_number(id.density()),
-        used: ran.used,
-        replies: ran.replies,
+        used: op.used,
+        replies: op.replies,
     }
 }
 
-fn long_id_out(ran: Ran, long: ExtendedDeviceId) -> QspiLongIdRan
-    ensures numbers { λ r. ⌜ r ≡ numbers.withLongId ran (extendedBytes long) ⌝ }
+fn long_id_out(s: Stepped, long: ExtendedDeviceId) -> QspiLongIdRan
+    ensures numbers { λ r. ⌜ r ≡ numbers.withLongId (answerBy s) (extendedBytes long) ⌝ }
 {
-    let answer = ran.answer;
+    let answer = s.answer;
+    let op = s.op;
     let id = long.base_id();
     let model = long.model_number_raw();
     QspiLongIdRan {
-        answer: answer.number(),
+        answer: number_of(answer),
         manufacturer_id: id.manufacturer_id() as u32,
         device_id: id.device_id_raw() as u32,
         memory_interface_type: codes::interface_number(id.memory_interface_type()),
@@ -228,8 +232,8 @@ fn long_id_out(ran: Ran, long: ExtendedDeviceId) -> QspiLongIdRan
         sector_arch: codes::sector_number(long.sector_arch()),
         family_id: long.family_id() as u32,
         model_number: codes::pair(model[0], model[1]),
-        used: ran.used,
-        replies: ran.replies,
+        used: op.used,
+        replies: op.replies,
     }
 }
 
@@ -363,16 +367,6 @@ pub extern "C" fn qspi_linear_mode_config(
     }
 }
 
-// The clock control word of `initialize`; 0 where it is refused.
-fn clock_word(clock_config: ClockConfig, phase: bool, polarity: bool) -> u32
-    ensures word { λ r. ⌜ r ≡ cond (ltb 63 («clock_config» .«ref_clk_div»)) 0 (clockControlWord («clock_config» .«ref_clk_div») (sourceCode («clock_config» .«src_sel»)) 1) ⌝ }
-{
-    match qspi::initialize_words(clock_config, phase, polarity) {
-        Initialization::Words(words) => words.lqspi_clk_ctrl,
-        Initialization::FieldTooWide => 0,
-    }
-}
-
 fn initialize(
     clock_config: ClockConfig,
     phase: bool,
@@ -380,14 +374,11 @@ fn initialize(
     replies: &[u32],
     log: &mut [u32],
 ) -> QspiValueRan
-    ensures ran { λ r. ⌜ r ≡ numbers.valued (called (call.initialize «clock_config» phase polarity) (length (now (log .entry)) / 2) (now (replies .entry))) ⌝ }
+    ensures ran { λ r. ⌜ r ≡ numbers.valued (answeredOf (called (call.initialize «clock_config» phase polarity) (length (now (log .entry)) / 2) (now (replies .entry)))) ⌝ }
     ensures logged { λ r. ⌜ now (log .exit) ≡ loggedOf (called (call.initialize «clock_config» phase polarity) (length (now (log .entry)) / 2) (now (replies .entry))) (now (log .entry)) ⌝ }
 {
     let op = start::initialize(clock_config, phase, polarity, log.len());
-    let s = run::command(op, replies, log);
-    let answer = s.answer;
-    let word = run::kept(answer, clock_word(clock_config, phase, polarity));
-    value_out(run::finish(s), word)
+    valued(op, replies, log)
 }
 
 #[no_mangle]
@@ -401,7 +392,7 @@ pub extern "C" fn qspi_initialize(
     replies: &[u32],
     log: &mut [u32],
 ) -> QspiValueRan
-    ensures ran { λ r. ⌜ r ≡ numbers.valued (called (codes.initialize «src_sel» «ref_clk_div» loopback «baud_rate_div» phase polarity) (length (now (log .entry)) / 2) (now (replies .entry))) ⌝ }
+    ensures ran { λ r. ⌜ r ≡ numbers.valued (answeredOf (called (codes.initialize «src_sel» «ref_clk_div» loopback «baud_rate_div» phase polarity) (length (now (log .entry)) / 2) (now (replies .entry)))) ⌝ }
     ensures logged { λ r. ⌜ now (log .exit) ≡ loggedOf (called (codes.initialize «src_sel» «ref_clk_div» loopback «baud_rate_div» phase polarity) (length (now (log .entry)) / 2) (now (replies .entry))) (now (log .entry)) ⌝ }
 {
     if codes::fit(src_sel, baud_rate_div) {
@@ -426,7 +417,7 @@ pub extern "C" fn qspi_new(
     replies: &[u32],
     log: &mut [u32],
 ) -> QspiRan
-    ensures ran { λ r. ⌜ r ≡ numbers.ran (called (call.newCall (record { «set_quad_bit_if_necessary» = «set_quad_bit_if_necessary»; «latency_config» = codes.latencyOf «set_latency» latency; «clear_write_protection» = «clear_write_protection» })) (length (now (log .entry)) / 2) (now (replies .entry))) ⌝ }
+    ensures ran { λ r. ⌜ r ≡ numbers.ran (answeredOf (called (call.newCall (record { «set_quad_bit_if_necessary» = «set_quad_bit_if_necessary»; «latency_config» = codes.latencyOf «set_latency» latency; «clear_write_protection» = «clear_write_protection» })) (length (now (log .entry)) / 2) (now (replies .entry)))) ⌝ }
     ensures logged { λ r. ⌜ now (log .exit) ≡ loggedOf (called (call.newCall (record { «set_quad_bit_if_necessary» = «set_quad_bit_if_necessary»; «latency_config» = codes.latencyOf «set_latency» latency; «clear_write_protection» = «clear_write_protection» })) (length (now (log .entry)) / 2) (now (replies .entry))) (now (log .entry)) ⌝ }
 {
     let config = Config {
@@ -444,7 +435,7 @@ pub extern "C" fn qspi_enable_linear_addressing(
     replies: &[u32],
     log: &mut [u32],
 ) -> QspiRan
-    ensures ran { λ r. ⌜ r ≡ numbers.ran (called (call.enableLinearAddressing config) (length (now (log .entry)) / 2) (now (replies .entry))) ⌝ }
+    ensures ran { λ r. ⌜ r ≡ numbers.ran (answeredOf (called (call.enableLinearAddressing config) (length (now (log .entry)) / 2) (now (replies .entry)))) ⌝ }
     ensures logged { λ r. ⌜ now (log .exit) ≡ loggedOf (called (call.enableLinearAddressing config) (length (now (log .entry)) / 2) (now (replies .entry))) (now (log .entry)) ⌝ }
 {
     let op = start::enable_linear_addressing(config, log.len());
@@ -453,7 +444,7 @@ pub extern "C" fn qspi_enable_linear_addressing(
 
 #[no_mangle]
 pub extern "C" fn qspi_enable_io_mode(dual_flash: bool, replies: &[u32], log: &mut [u32]) -> QspiRan
-    ensures ran { λ r. ⌜ r ≡ numbers.ran (called (call.enableIoMode «dual_flash») (length (now (log .entry)) / 2) (now (replies .entry))) ⌝ }
+    ensures ran { λ r. ⌜ r ≡ numbers.ran (answeredOf (called (call.enableIoMode «dual_flash») (length (now (log .entry)) / 2) (now (replies .entry)))) ⌝ }
     ensures logged { λ r. ⌜ now (log .exit) ≡ loggedOf (called (call.enableIoMode «dual_flash») (length (now (log .entry)) / 2) (now (replies .entry))) (now (log .entry)) ⌝ }
 {
     let op = start::enable_io_mode(dual_flash, log.len());
@@ -462,7 +453,7 @@ pub extern "C" fn qspi_enable_io_mode(dual_flash: bool, replies: &[u32], log: &m
 
 #[no_mangle]
 pub extern "C" fn qspi_disable(replies: &[u32], log: &mut [u32]) -> QspiRan
-    ensures ran { λ r. ⌜ r ≡ numbers.ran (called call.disable (length (now (log .entry)) / 2) (now (replies .entry))) ⌝ }
+    ensures ran { λ r. ⌜ r ≡ numbers.ran (answeredOf (called call.disable (length (now (log .entry)) / 2) (now (replies .entry)))) ⌝ }
     ensures logged { λ r. ⌜ now (log .exit) ≡ loggedOf (called call.disable (length (now (log .entry)) / 2) (now (replies .entry))) (now (log .entry)) ⌝ }
 {
     let op = start::disable(log.len());
@@ -475,7 +466,7 @@ pub extern "C" fn qspi_set_write_protection(
     replies: &[u32],
     log: &mut [u32],
 ) -> QspiRan
-    ensures ran { λ r. ⌜ r ≡ numbers.ran (called (call.setWriteProtection protection) (length (now (log .entry)) / 2) (now (replies .entry))) ⌝ }
+    ensures ran { λ r. ⌜ r ≡ numbers.ran (answeredOf (called (call.setWriteProtection protection) (length (now (log .entry)) / 2) (now (replies .entry)))) ⌝ }
     ensures logged { λ r. ⌜ now (log .exit) ≡ loggedOf (called (call.setWriteProtection protection) (length (now (log .entry)) / 2) (now (replies .entry))) (now (log .entry)) ⌝ }
 {
     let op = start::set_write_protection(protection, log.len());
@@ -484,7 +475,7 @@ pub extern "C" fn qspi_set_write_protection(
 
 #[no_mangle]
 pub extern "C" fn qspi_write_enable(replies: &[u32], log: &mut [u32]) -> QspiRan
-    ensures ran { λ r. ⌜ r ≡ numbers.ran (called call.writeEnable (length (now (log .entry)) / 2) (now (replies .entry))) ⌝ }
+    ensures ran { λ r. ⌜ r ≡ numbers.ran (answeredOf (called call.writeEnable (length (now (log .entry)) / 2) (now (replies .entry)))) ⌝ }
     ensures logged { λ r. ⌜ now (log .exit) ≡ loggedOf (called call.writeEnable (length (now (log .entry)) / 2) (now (replies .entry))) (now (log .entry)) ⌝ }
 {
     let op = start::write_enable(log.len());
@@ -493,7 +484,7 @@ pub extern "C" fn qspi_write_enable(replies: &[u32], log: &mut [u32]) -> QspiRan
 
 #[no_mangle]
 pub extern "C" fn qspi_write_disable(replies: &[u32], log: &mut [u32]) -> QspiRan
-    ensures ran { λ r. ⌜ r ≡ numbers.ran (called call.writeDisable (length (now (log .entry)) / 2) (now (replies .entry))) ⌝ }
+    ensures ran { λ r. ⌜ r ≡ numbers.ran (answeredOf (called call.writeDisable (length (now (log .entry)) / 2) (now (replies .entry)))) ⌝ }
     ensures logged { λ r. ⌜ now (log .exit) ≡ loggedOf (called call.writeDisable (length (now (log .entry)) / 2) (now (replies .entry))) (now (log .entry)) ⌝ }
 {
     let op = start::write_disable(log.len());
@@ -502,7 +493,7 @@ pub extern "C" fn qspi_write_disable(replies: &[u32], log: &mut [u32]) -> QspiRa
 
 #[no_mangle]
 pub extern "C" fn qspi_clear_status(replies: &[u32], log: &mut [u32]) -> QspiRan
-    ensures ran { λ r. ⌜ r ≡ numbers.ran (called call.clearStatus (length (now (log .entry)) / 2) (now (replies .entry))) ⌝ }
+    ensures ran { λ r. ⌜ r ≡ numbers.ran (answeredOf (called call.clearStatus (length (now (log .entry)) / 2) (now (replies .entry)))) ⌝ }
     ensures logged { λ r. ⌜ now (log .exit) ≡ loggedOf (called call.clearStatus (length (now (log .entry)) / 2) (now (replies .entry))) (now (log .entry)) ⌝ }
 {
     let op = start::clear_status(log.len());
@@ -511,7 +502,7 @@ pub extern "C" fn qspi_clear_status(replies: &[u32], log: &mut [u32]) -> QspiRan
 
 #[no_mangle]
 pub extern "C" fn qspi_write_status(sr: u8, replies: &[u32], log: &mut [u32]) -> QspiRan
-    ensures ran { λ r. ⌜ r ≡ numbers.ran (called (call.writeStatus sr) (length (now (log .entry)) / 2) (now (replies .entry))) ⌝ }
+    ensures ran { λ r. ⌜ r ≡ numbers.ran (answeredOf (called (call.writeStatus sr) (length (now (log .entry)) / 2) (now (replies .entry)))) ⌝ }
     ensures logged { λ r. ⌜ now (log .exit) ≡ loggedOf (called (call.writeStatus sr) (length (now (log .entry)) / 2) (now (replies .entry))) (now (log .entry)) ⌝ }
 {
     let op = start::write_status(sr, log.len());
@@ -525,7 +516,7 @@ pub extern "C" fn qspi_write_status_and_config_register(
     replies: &[u32],
     log: &mut [u32],
 ) -> QspiRan
-    ensures ran { λ r. ⌜ r ≡ numbers.ran (called (call.writeRegisters sr cr) (length (now (log .entry)) / 2) (now (replies .entry))) ⌝ }
+    ensures ran { λ r. ⌜ r ≡ numbers.ran (answeredOf (called (call.writeRegisters sr cr) (length (now (log .entry)) / 2) (now (replies .entry)))) ⌝ }
     ensures logged { λ r. ⌜ now (log .exit) ≡ loggedOf (called (call.writeRegisters sr cr) (length (now (log .entry)) / 2) (now (replies .entry))) (now (log .entry)) ⌝ }
 {
     let op = start::write_status_and_config_register(sr, cr, log.len());
@@ -534,7 +525,7 @@ pub extern "C" fn qspi_write_status_and_config_register(
 
 #[no_mangle]
 pub extern "C" fn qspi_erase_sector(addr: u32, replies: &[u32], log: &mut [u32]) -> QspiRan
-    ensures ran { λ r. ⌜ r ≡ numbers.ran (called (call.eraseSector addr) (length (now (log .entry)) / 2) (now (replies .entry))) ⌝ }
+    ensures ran { λ r. ⌜ r ≡ numbers.ran (answeredOf (called (call.eraseSector addr) (length (now (log .entry)) / 2) (now (replies .entry)))) ⌝ }
     ensures logged { λ r. ⌜ now (log .exit) ≡ loggedOf (called (call.eraseSector addr) (length (now (log .entry)) / 2) (now (replies .entry))) (now (log .entry)) ⌝ }
 {
     let op = start::erase_sector(addr, log.len());
@@ -543,12 +534,12 @@ pub extern "C" fn qspi_erase_sector(addr: u32, replies: &[u32], log: &mut [u32])
 
 #[no_mangle]
 pub extern "C" fn qspi_program(addr: u32, data: &[u8], replies: &[u32], log: &mut [u32]) -> QspiRan
-    ensures ran { λ r. ⌜ r ≡ numbers.ran (called (call.program addr (now («data» .entry))) (length (now (log .entry)) / 2) (now (replies .entry))) ⌝ }
+    ensures ran { λ r. ⌜ r ≡ numbers.ran (answeredOf (called (call.program addr (now («data» .entry))) (length (now (log .entry)) / 2) (now (replies .entry)))) ⌝ }
     ensures logged { λ r. ⌜ now (log .exit) ≡ loggedOf (called (call.program addr (now («data» .entry))) (length (now (log .entry)) / 2) (now (replies .entry))) (now (log .entry)) ⌝ }
 {
     let op = start::program(addr, data.len(), log.len());
     let mut buffer = [0u8; 0];
-    ran_out(run::finish(qspi_operation::run(op, data, &mut buffer, log, replies)))
+    ran_out(qspi_operation::run(op, data, &mut buffer, log, replies))
 }
 
 #[no_mangle]
@@ -558,7 +549,7 @@ pub extern "C" fn qspi_read_page_read(
     replies: &[u32],
     log: &mut [u32],
 ) -> QspiRan
-    ensures ran { λ r. ⌜ r ≡ numbers.ran (called (call.read false false addr (length (now (buffer .entry)))) (length (now (log .entry)) / 2) (now (replies .entry))) ⌝ }
+    ensures ran { λ r. ⌜ r ≡ numbers.ran (answeredOf (called (call.read false false addr (length (now (buffer .entry)))) (length (now (log .entry)) / 2) (now (replies .entry)))) ⌝ }
     ensures logged { λ r. ⌜ now (log .exit) ≡ loggedOf (called (call.read false false addr (length (now (buffer .entry)))) (length (now (log .entry)) / 2) (now (replies .entry))) (now (log .entry)) ⌝ }
     ensures stored { λ r. ⌜ now (buffer .exit) ≡ bufferedOf (called (call.read false false addr (length (now (buffer .entry)))) (length (now (log .entry)) / 2) (now (replies .entry))) (now (buffer .entry)) ⌝ }
 {
@@ -574,7 +565,7 @@ pub extern "C" fn qspi_read_fast_read(
     replies: &[u32],
     log: &mut [u32],
 ) -> QspiRan
-    ensures ran { λ r. ⌜ r ≡ numbers.ran (called (call.read true «dummy_byte» addr (length (now (buffer .entry)))) (length (now (log .entry)) / 2) (now (replies .entry))) ⌝ }
+    ensures ran { λ r. ⌜ r ≡ numbers.ran (answeredOf (called (call.read true «dummy_byte» addr (length (now (buffer .entry)))) (length (now (log .entry)) / 2) (now (replies .entry)))) ⌝ }
     ensures logged { λ r. ⌜ now (log .exit) ≡ loggedOf (called (call.read true «dummy_byte» addr (length (now (buffer .entry)))) (length (now (log .entry)) / 2) (now (replies .entry))) (now (log .entry)) ⌝ }
     ensures stored { λ r. ⌜ now (buffer .exit) ≡ bufferedOf (called (call.read true «dummy_byte» addr (length (now (buffer .entry)))) (length (now (log .entry)) / 2) (now (replies .entry))) (now (buffer .entry)) ⌝ }
 {
@@ -584,40 +575,40 @@ pub extern "C" fn qspi_read_fast_read(
 
 #[no_mangle]
 pub extern "C" fn qspi_read_status_register_1(replies: &[u32], log: &mut [u32]) -> QspiValueRan
-    ensures ran { λ r. ⌜ r ≡ numbers.valued (called call.readStatus (length (now (log .entry)) / 2) (now (replies .entry))) ⌝ }
+    ensures ran { λ r. ⌜ r ≡ numbers.valued (answeredOf (called call.readStatus (length (now (log .entry)) / 2) (now (replies .entry)))) ⌝ }
     ensures logged { λ r. ⌜ now (log .exit) ≡ loggedOf (called call.readStatus (length (now (log .entry)) / 2) (now (replies .entry))) (now (log .entry)) ⌝ }
 {
     let op = start::read_status_register_1(log.len());
-    register(op, replies, log)
+    valued(op, replies, log)
 }
 
 #[no_mangle]
 pub extern "C" fn qspi_read_configuration_register(replies: &[u32], log: &mut [u32]) -> QspiValueRan
-    ensures ran { λ r. ⌜ r ≡ numbers.valued (called call.readConfig (length (now (log .entry)) / 2) (now (replies .entry))) ⌝ }
+    ensures ran { λ r. ⌜ r ≡ numbers.valued (answeredOf (called call.readConfig (length (now (log .entry)) / 2) (now (replies .entry)))) ⌝ }
     ensures logged { λ r. ⌜ now (log .exit) ≡ loggedOf (called call.readConfig (length (now (log .entry)) / 2) (now (replies .entry))) (now (log .entry)) ⌝ }
 {
     let op = start::read_configuration_register(log.len());
-    register(op, replies, log)
+    valued(op, replies, log)
 }
 
 #[no_mangle]
 pub extern "C" fn qspi_read_rdid_base(replies: &[u32], log: &mut [u32]) -> QspiIdRan
-    ensures ran { λ r. ⌜ r ≡ numbers.identified (called call.readId (length (now (log .entry)) / 2) (now (replies .entry))) ⌝ }
+    ensures ran { λ r. ⌜ r ≡ numbers.identified (answeredOf (called call.readId (length (now (log .entry)) / 2) (now (replies .entry)))) ⌝ }
     ensures logged { λ r. ⌜ now (log .exit) ≡ loggedOf (called call.readId (length (now (log .entry)) / 2) (now (replies .entry))) (now (log .entry)) ⌝ }
 {
     let op = start::read_rdid_base(log.len());
     let s = run::command(op, replies, log);
-    id_out(run::finish(s), id_of(s))
+    id_out(s, id_of(s))
 }
 
 #[no_mangle]
 pub extern "C" fn qspi_read_rdid_extended(replies: &[u32], log: &mut [u32]) -> QspiLongIdRan
-    ensures ran { λ r. ⌜ r ≡ numbers.identifiedAtLength (called call.readLongId (length (now (log .entry)) / 2) (now (replies .entry))) ⌝ }
+    ensures ran { λ r. ⌜ r ≡ numbers.identifiedAtLength (answeredOf (called call.readLongId (length (now (log .entry)) / 2) (now (replies .entry)))) ⌝ }
     ensures logged { λ r. ⌜ now (log .exit) ≡ loggedOf (called call.readLongId (length (now (log .entry)) / 2) (now (replies .entry))) (now (log .entry)) ⌝ }
 {
     let op = start::read_rdid_extended(log.len());
     let s = run::command(op, replies, log);
-    long_id_out(run::finish(s), long_id_of(s))
+    long_id_out(s, long_id_of(s))
 }
 
 #[no_mangle]
@@ -627,7 +618,7 @@ pub extern "C" fn qspi_write_pages(
     replies: &[u32],
     log: &mut [u32],
 ) -> QspiPagesRan
-    ensures ran { λ r. ⌜ r ≡ numbers.pages (numbers.pagesRan (called (call.writePages addr (now («data» .entry))) (length (now (log .entry)) / 2) (now (replies .entry)))) ⌝ }
+    ensures ran { λ r. ⌜ r ≡ numbers.pages (answeredOf (called (call.writePages addr (now («data» .entry))) (length (now (log .entry)) / 2) (now (replies .entry)))) ⌝ }
     ensures logged { λ r. ⌜ now (log .exit) ≡ loggedOf (called (call.writePages addr (now («data» .entry))) (length (now (log .entry)) / 2) (now (replies .entry))) (now (log .entry)) ⌝ }
     ensures cut { λ r. ⌜ SavedNumbers addr (now («data» .entry)) r (now (log .exit)) ⌝ }
 {

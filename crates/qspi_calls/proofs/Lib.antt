@@ -1,9 +1,7 @@
-pub mod Outcome
 pub mod StartLaws
 pub mod Tied
 pub mod Phases
 pub mod Scripted
-pub mod Whole
 pub mod Short
 pub mod OneTransfer
 pub mod ProgramWords
@@ -16,4 +14,6 @@ pub mod ReadCalls
 pub mod PromptLogs
 pub mod WireOrder
 pub mod Registers
+pub mod ValueLaws
 pub mod Promised
+pub mod Begins

@@ -18,17 +18,17 @@ use Rattle.qspi_script.specs.declared.Stage.the-variants as stage
 use Rattle.qspi_script.specs.declared.Status.the-variants.{Done, OutOfRange, NotAligned, CrossesPageBoundary, ProgrammingErrorBitSet}
 use Rattle.qspi_script.specs.declared.Job.{Job}
 use Rattle.qspi_script.specs.declared.Place.{Place}
-use Rattle.qspi_calls.specs.Machine.{Transfer, Script, ends, counts, onward}
+use Rattle.qspi_operation.specs.Machine.{Transfer, Script, ends, counts, onward}
 use Rattle.qspi_calls.specs.Chunks.{Chunk, chunksIn, chunks, Among, here, there}
 use Rattle.qspi_calls.specs.Calls.{refused, programming, programThen, pages, writePages}
 use Rattle.qspi_calls.specs.Calls as call
 use Rattle.qspi_calls.specs.Starts as start
 use Rattle.qspi_calls.proofs.Phases.{words, Same}
 use Rattle.qspi_calls.proofs.Scripted.{Turns, on, over, more, Scripted}
-use Rattle.qspi_calls.proofs.Short.{no-values, ended-at-start}
+use Rattle.qspi_calls.proofs.Short.{ended-at-start}
 use Rattle.qspi_calls.proofs.ProgramWords.{length-words, data-word}
 use Rattle.qspi_calls.proofs.Several.{Stages, opens, either, Working, settle-enable, working-scripted}
-use Rattle.qspi_calls.proofs.Whole.{Starts}
+use Rattle.qspi_calls.proofs.Tied.{Starts}
 
 -- ---- the chunks
 
@@ -156,17 +156,17 @@ module _ (a : ℕ) (bytes log : List ℕ) (range : a + length bytes ≤ 16777215
       rw (z, f) (data-word bytes (chunk d) d j (omega (arith, m)) (omega (arith, m)) (page-byte d) e (omega arith))
 
   -- the next chunk, what it is refused for, or the end
-  page-turn : (f d : ℕ) (s : Stage) (n : ℕ) (w : Wire) → d ≤ length bytes → length bytes ≤ d + f → Turns job bytes [] no-values Paging (nextPage job (at s d n)) w d (pages (chunksIn f (a + d) (drop d bytes)))
+  page-turn : (f d : ℕ) (s : Stage) (n : ℕ) (w : Wire) → d ≤ length bytes → length bytes ≤ d + f → Turns job bytes [] Paging (nextPage job (at s d n)) w d (pages (chunksIn f (a + d) (drop d bytes)))
   page-turn f d s n w h g = go f g (ltb d (length bytes)) refl
     where
       decide : (f : ℕ) → d < length bytes → length bytes ≤ d + suc f → (b₁ b₂ : Bool) → eqb (length (chunk d) % 4) 0 ≡ b₁
-          → Turns job bytes [] no-values Paging (pick b₁ (pick b₂ (finish (at stage.Enable d (pageChunk (length bytes) d)) CrossesPageBoundary) (begin (at stage.Enable d (pageChunk (length bytes) d)) stage.Enable)) (finish (at stage.Enable d (pageChunk (length bytes) d)) NotAligned)) w d
+          → Turns job bytes [] Paging (pick b₁ (pick b₂ (finish (at stage.Enable d (pageChunk (length bytes) d)) CrossesPageBoundary) (begin (at stage.Enable d (pageChunk (length bytes) d)) stage.Enable)) (finish (at stage.Enable d (pageChunk (length bytes) d)) NotAligned)) w d
           (onward b₁ (onward b₂ (refused CrossesPageBoundary) (call.working 6 ProgrammingErrorBitSet (programming (a + d) (chunk d)) (counts (length (chunk d)) (rest f d)))) (refused NotAligned))
       decide f l m true false e = on refl refl (settle-enable (page f l m (eqb-true (length (chunk d) % 4) 0 e)))
       decide f l m true true e = over refl refl refl refl
       decide f l m false b e = over refl refl refl refl
 
-      go : (f : ℕ) → length bytes ≤ d + f → (b : Bool) → ltb d (length bytes) ≡ b → Turns job bytes [] no-values Paging (nextPage job (at s d n)) w d (pages (chunksIn f (a + d) (drop d bytes)))
+      go : (f : ℕ) → length bytes ≤ d + f → (b : Bool) → ltb d (length bytes) ≡ b → Turns job bytes [] Paging (nextPage job (at s d n)) w d (pages (chunksIn f (a + d) (drop d bytes)))
       go f g false e =
           let l = ltb-false d (length bytes) e in
           let z : eqb (pageChunk (length bytes) d) 0 ≡ true = eq-eqb (pageChunk (length bytes) d) 0 (omega arith) in
@@ -197,25 +197,25 @@ module _ (a : ℕ) (bytes log : List ℕ) (range : a + length bytes ≤ 16777215
           let l₂ : drop (d + length (chunk d)) bytes ≡ [] = drop-of-length-le bytes {i = d + length (chunk d)} (omega (arith, m)) in
           rw (l₁, l₂, chunks-nil f (a + d + 128), chunks-nil f (a + (d + length (chunk d))))
 
-  page-clean : (d n : ℕ) (x : Transfer) (then : Script) (w : Wire) → Page d n x then → Turns job bytes [] no-values Paging (settled job (at stage.Poll d n)) w d then
+  page-clean : (d n : ℕ) (x : Transfer) (then : Script) (w : Wire) → Page d n x then → Turns job bytes [] Paging (settled job (at stage.Poll d n)) w d then
   page-clean d n x then w (page f h g e) =
       let m = chunk-length d in
       let p : (d + pageChunk (length bytes) d) % 2 ^ 64 ≡ d + length (chunk d) = omega (arith, m) in
       let q = page-turn f (d + length (chunk d)) stage.Poll (pageChunk (length bytes) d) w (omega (arith, m)) (omega (arith, m)) in
-      let t : Turns job bytes [] no-values Paging (settled job (at stage.Poll d (pageChunk (length bytes) d))) w (d + length (chunk d)) (rest f d) = rw (p, rest-chunks f d h) q in
+      let t : Turns job bytes [] Paging (settled job (at stage.Poll d (pageChunk (length bytes) d))) w (d + length (chunk d)) (rest f d) = rw (p, rest-chunks f d h) q in
       more t
 
-  page-scripted : Scripted job bytes [] no-values Paging
+  page-scripted : Scripted job bytes [] Paging
   page-scripted = working-scripted stage.Program false true ProgrammingErrorBitSet 6 a bytes log Page refl (λ d n r. refl) page-same page-word page-clean refl refl (λ st. refl)
 
-  pages-start : Starts (start.opened job (nextPage job (start.placeAt stage.Enable 0 0 0))) bytes log [] no-values (pages (chunks a bytes))
+  pages-start : Starts (start.opened job (nextPage job (start.placeAt stage.Enable 0 0 0))) bytes log [] (pages (chunks a bytes))
   unfolding chunks
   pages-start =
       let e : chunksIn (length bytes) (a + 0) bytes ≡ chunksIn (length bytes) a bytes = ap (λ (z : ℕ). chunksIn (length bytes) z bytes) (let z : a + 0 ≡ a = omega arith in z) in
       let q = page-turn (length bytes) 0 stage.Enable 0 (freshWire phase.DrainStatus) (omega arith) (omega arith) in
       opens job bytes log Paging page-scripted (nextPage job (start.placeAt stage.Enable 0 0 0)) (pages (chunksIn (length bytes) a bytes)) (rw e at q) refl refl refl
 
-pub write-pages : (a : ℕ) (bytes log : List ℕ) → Starts (start.writePagesOf a (length bytes) (length log)) bytes log [] no-values (writePages a bytes)
+pub write-pages : (a : ℕ) (bytes log : List ℕ) → Starts (start.writePagesOf a (length bytes) (length log)) bytes log [] (writePages a bytes)
 write-pages a bytes log =
-    either bytes log (ltb 16777215 (a + length bytes)) (λ e. ended-at-start (start.pagingJob a (length bytes) (length log)) bytes log [] OutOfRange refl refl refl refl)
+    either bytes log (ltb 16777215 (a + length bytes)) (λ e. ended-at-start (start.pagingJob a (length bytes) (length log)) bytes log [] OutOfRange refl (λ w. refl) refl refl refl)
     (λ e. pages-start a bytes log (ltb-false 16777215 (a + length bytes) e))

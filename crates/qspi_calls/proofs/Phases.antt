@@ -21,7 +21,7 @@ use Rattle.qspi_script.specs.Stages.{frameOf, dueWord}
 use Rattle.qspi_script.specs.declared.Job.{Job}
 use Rattle.qspi_script.specs.declared.Place.{Place}
 use Rattle.qspi_operation.specs.Step.{accessOf}
-use Rattle.qspi_calls.specs.Machine.{Action, write, modify, drain, reply, Midway, first, full, changed, again, ready, wantAt, Progress, stays, over, takes, progress, Transfer, replicate, closing, replying, opening, Script, State, going, moves, proceed, begin}
+use Rattle.qspi_operation.specs.Machine.{Action, write, modify, drain, reply, Midway, first, full, changed, again, ready, wantAt, Progress, stays, over, takes, progress, Transfer, replicate, closing, replying, opening, Script, State, going, moves, proceed, begin}
 use Rattle.qspi_calls.proofs.Tied.{asked}
 
 abbrev pub wire : Phase → ℕ → ℕ → ℕ → List ℕ → Wire

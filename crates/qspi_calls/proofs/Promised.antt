@@ -1,93 +1,89 @@
--- What the code's runs promise, out of the tie of each start to its script. Assumes nothing.
-use mathlib.Core.Path.{_≡_, refl, ap, _∙_, sym}
-use mathlib.Core.Bool.{Bool, true, false, cond}
-use mathlib.Core.List.{List, [], _∷_}
-use Prim.Native.Nat.{ℕ, _/_, _^_, _<_}
-use lib.Dec.{ltb}
-use lib.ListN.{length, getD}
-use Rattle.zynq7000.specs.Slcr.{sourceCode, clockControlWord}
-use Rattle.zynq7000_hal.specs.declared.qspi.ClockConfig.{ClockConfig}
-use Rattle.zedboard_bsp.specs.DeviceId.{replyBytes, longReplyBytes}
-use Rattle.zedboard_bsp.specs.Words.{topByte}
-use Rattle.qspi_transfer.specs.declared.Wire.{Wire}
-use Rattle.qspi_script.specs.declared.Status.{Status}
+-- What a whole call hands back, out of what its start and its run promise. Assumes nothing.
+use mathlib.Core.Path.{_≡_, refl, ap, subst, _∙_, sym}
+use mathlib.Core.Bool.{Bool, true, false}
+use mathlib.Core.List.{List, [], _∷_, _++_}
+use Prim.Native.Nat.{ℕ, suc, _+_, _-_, _*_, _/_, _≤_}
+use native.Mathlib.Omega.{arith}
+use lib.ListN.{length, drop}
+use lib.Seq.{sets, sets-eq}
+use Rattle.zynq7000.specs.Access.{encode}
+use Rattle.zynq7000.specs.declared.qspi.Access.{Access}
+use Rattle.zynq7000.proofs.AccessLaws.{length-encode}
+use Rattle.qspi_script.specs.declared.Job.{Job}
 use Rattle.qspi_operation.specs.declared.Op.{Op}
 use Rattle.qspi_operation.specs.declared.Stepped.{Stepped}
-use Rattle.qspi_operation.specs.Run.{Run, runOf}
+use Rattle.qspi_operation.specs.Machine.{Script, State, begin, ended, going, statusIn, bytesIn, Result, halt, runs, called, overlaid, readsOf}
+use Rattle.qspi_operation.specs.Points.{Lending, outset, rest, answerAt, answeredOf}
+use Rattle.qspi_operation.specs.Follows.{Begun, OnRun, RunFollows, answerBy}
 use Rattle.qspi_operation.specs.Run as by-counters
-use Rattle.qspi_operation.specs.Step.{programmedOf}
-use Rattle.qspi_calls.specs.Machine.{Script, Result, valuesIn, countIn, called}
-use Rattle.qspi_calls.specs.Values.{isDone}
-use Rattle.qspi_calls.proofs.OneTransfer.{register-value, id-values, long-id-values}
-use Rattle.qspi_calls.proofs.LowLevelCalls.{clock-value}
-use Rattle.qspi_calls.proofs.Whole.{Whole, Starts, whole}
-use Rattle.qspi_calls.specs.declared.run.Ran.{Ran}
-use Rattle.qspi_calls.specs.Promise.{ranOf, loggedOf, handed, ended, Ended, valueOf, idOf, keptOf}
+use Rattle.qspi_operation.specs.Run.{Run, runOf}
+use Rattle.qspi_operation.specs.Step.{isGoing}
+use Rattle.qspi_operation.proofs.Orders.{run-ended}
+use Rattle.qspi_operation.proofs.PointLaws.{over-runs}
+use Rattle.qspi_operation.proofs.Runs.{run-job, run-wide}
+use Rattle.qspi_calls.specs.Promise.{loggedOf, bufferedOf, Called}
 
--- what a run promises, but for its buffer
-pub without-buffer : {s : Stepped} {buffer₁ log₁ : List ℕ} {e : Run} → by-counters.Ran s buffer₁ log₁ e → Ended s log₁ e
-without-buffer n = record { op = n .op; answer = n .answer; logged = n .logged }
+-- ---- for `run::command`
 
-module _ (Values : Status → Wire → List ℕ) (c : Script) (bytes rs log buffer : List ℕ) where
-  abbrev result : Result
-  result = called c (length log / 2) rs
+empty : (l : List ℕ) → length l ≡ 0 → l ≡ []
+empty [] e = refl
+empty (x ∷ l) e = absurd (omega arith)
 
-  -- the run of an operation that is the start of the script
-  pub met : {o o₀ : Op} → length rs < 2 ^ 64 → o ≡ o₀ → Starts o₀ bytes log buffer Values c → Whole Values (runOf o bytes rs buffer log) log buffer result
-  met {o₀ = o₀} fits e h = rw e (whole o₀ bytes rs log buffer Values c fits h)
+-- what a run promises that is lent no data and no buffer
+pub commanded : (o : Op) (rs log : List ℕ) {s : Stepped} {buffer₁ log₁ : List ℕ} → by-counters.Ran s buffer₁ log₁ (runOf o [] rs [] log) × RunFollows o [] [] log rs s buffer₁ log₁
+    → RunFollows o [] [] log rs s [] log₁ × (s .op .job ≡ o .job)
+commanded o rs log {s} {buffer₁} {log₁} h =
+    let e : buffer₁ ≡ [] = empty buffer₁ (ap length (h .0 .stored) ∙ run-wide o [] rs [] log) in
+    (subst (λ (z : List ℕ). RunFollows o [] [] log rs s z log₁) e (h .1), ap (λ (z : Op). z .job) (h .0 .op) ∙ run-job o [] rs [] log)
 
-  -- of what the code hands back: answer, counts and log; where the values stand; the bytes programmed
-  pub record Kept (s : Stepped) (log₁ : List ℕ) : Type 0 where
-    pub ran : handed s ≡ ranOf result
-    pub logged : log₁ ≡ loggedOf result log
-    pub values : valuesIn (result .state) ≡ Values (s .answer) (s .op .wire)
-    pub answer : s .answer ≡ result .answer
-    pub counted : countIn (result .state) ≡ programmedOf (s .op)
+-- ---- a whole call
 
-  pub kept-by : {o o₀ : Op} {s : Stepped} {log₁ : List ℕ} → length rs < 2 ^ 64 → o ≡ o₀ → Starts o₀ bytes log buffer Values c → Ended s log₁ (runOf o bytes rs buffer log) → Kept s log₁
-  kept-by fits e h n =
-      let w = met fits e h in
+-- the log over which a run was made
+pub log-is : (log : List ℕ) (s : State) (rs : List ℕ) → sets log 0 (encode (runs (length log / 2) s rs .log)) ≡ loggedOf (runs (length log / 2) s rs) log
+log-is log s rs =
+    let l = runs (length log / 2) s rs .log in
+    let m = length-encode l in
+    let k = run-ended (length log / 2) s rs .short in
+    let f : 0 + length (encode l) ≡ 2 * length l = omega (arith, m) in
+    sets-eq (encode l) log 0 (omega (arith, m, k)) ∙ ap (λ (z : ℕ). encode l ++ drop z log) f
+
+module _ (c : Script) (g : Lending) {o : Op} (b : Begun g c o) {buffer log rs : List ℕ} {s : Stepped} {buffer₁ log₁ : List ℕ} (r : RunFollows o (g .bytes) buffer log rs s buffer₁ log₁)
+    (wide : buffer ≡ g .buffer) (long : length log ≡ g .room) where
+  on : OnRun g (outset (begin c [] 0)) o (g .bytes) buffer log rs s buffer₁ log₁
+  on = r g (outset (begin c [] 0)) (b .follows)
+
+  -- the rest of a call of which no step was made is all of it
+  all-of-it : rest (g .room) rs (outset (begin c [] 0)) ≡ called c (length log / 2) rs
+  unfolding readsOf
+  all-of-it = let e : g .room / 2 - 0 ≡ length log / 2 = omega (arith, long) in rw e
+
+  buffer-is : buffer ≡ overlaid (bytesIn (begin c [] 0)) (g .buffer)
+  buffer-is = wide ∙ ap (λ (z : List ℕ). overlaid z (g .buffer)) (sym (b .unread))
+
+  goes : isGoing (statusIn (begin c [] 0)) ≡ true → Called c log buffer rs s buffer₁ log₁
+  goes e =
+      let y = on .runs e refl (ap length wide) long in
       record {
-        ran = rw (n .answer, n .op, w .answer, w .used, w .replies);
-        logged = n .logged ∙ w .logged;
-        values = rw (n .answer, n .op) (w .values);
-        answer = n .answer ∙ w .answer;
-        counted = rw (n .op) (w .counted);
+        answer = y .answer ∙ ap answeredOf all-of-it;
+        logged = y .logged ∙ ap (λ (x : Result). sets log 0 (encode (x .log))) all-of-it ∙ log-is log (begin c [] 0) rs;
+        stored = on .stored e refl long buffer-is ∙ ap (λ (x : Result). overlaid (bytesIn (x .state)) (g .buffer)) all-of-it ∙ ap (overlaid (bytesIn (called c (length log / 2) rs .state))) (sym wide);
       }
 
--- answer and used counts at the end of a run
-pub ran-of : {Values : Status → Wire → List ℕ} {e : Run} {log buffer : List ℕ} {r : Result} → Whole Values e log buffer r → ended e ≡ ranOf r
-ran-of w = rw (w .answer, w .used, w .replies)
+  is-over : isGoing (statusIn (begin c [] 0)) ≡ false → Called c log buffer rs s buffer₁ log₁
+  unfolding readsOf encode
+  is-over e =
+      let y = on .repeats e in
+      let w : called c (length log / 2) rs ≡ halt (statusIn (begin c [] 0)) (begin c [] 0) (length log / 2) rs = over-runs (length log / 2) (begin c [] 0) rs e in
+      record {
+        answer = y .1 ∙ ap answeredOf (sym w);
+        logged = y .0 .logged ∙ ap (λ (x : Result). loggedOf x log) (sym w);
+        stored = y .0 .stored ∙ buffer-is ∙ ap (overlaid (bytesIn (begin c [] 0))) (sym wide) ∙ ap (λ (x : Result). bufferedOf x buffer) (sym w);
+      }
 
--- ---- values
-
-register-by : (b : Bool) (v : ℕ) → topByte (cond b v 0) ≡ getD (cond b (topByte v ∷ []) []) 0 0
-register-by true v = refl
-register-by false v = refl
-
-pub register-of : (a : Status) (w : Wire) (r : Result) → valuesIn (r .state) ≡ register-value a w → topByte (keptOf a (w .last)) ≡ valueOf r
-register-of a w r g = register-by (isDone a) (w .last) ∙ ap (λ (z : List ℕ). getD z 0 0) (sym g)
-
-id-by : (b : Bool) (v : ℕ) → replyBytes (cond b v 0) ≡ cond b (cond b (replyBytes v) []) (replyBytes 0)
-id-by true v = refl
-id-by false v = refl
-
-pub id-of : (a : Status) (w : Wire) (r : Result) → a ≡ r .answer → valuesIn (r .state) ≡ id-values a w → replyBytes (keptOf a (w .last)) ≡ idOf (replyBytes 0) r
-id-of a w r h g = rw (← h, g) (id-by (isDone a) (w .last))
-
-long-id-by : (b : Bool) (u v w : ℕ) → longReplyBytes (cond b u 0) (cond b v 0) (cond b w 0) ≡ cond b (cond b (longReplyBytes u v w) []) (longReplyBytes 0 0 0)
-long-id-by true u v w = refl
-long-id-by false u v w = refl
-
-pub long-id-of : (a : Status) (w : Wire) (r : Result) → a ≡ r .answer → valuesIn (r .state) ≡ long-id-values a w
-    → longReplyBytes (keptOf a (w .older)) (keptOf a (w .old)) (keptOf a (w .last)) ≡ idOf (longReplyBytes 0 0 0) r
-long-id-of a w r h g = rw (← h, g) (long-id-by (isDone a) (w .older) (w .old) (w .last))
-
-clock-by : (b : Bool) (v : ℕ) → cond b v 0 ≡ getD (cond b (v ∷ []) []) 0 0
-clock-by true v = refl
-clock-by false v = refl
-
-pub clock-of : (c : ClockConfig) (a : Status) (w : Wire) (r : Result) → valuesIn (r .state) ≡ clock-value c a w
-    → keptOf a (cond (ltb 63 (c .«ref_clk_div»)) 0 (clockControlWord (c .«ref_clk_div») (sourceCode (c .«src_sel»)) 1)) ≡ valueOf r
-clock-of c a w r g =
-    clock-by (isDone a) (cond (ltb 63 (c .«ref_clk_div»)) 0 (clockControlWord (c .«ref_clk_div») (sourceCode (c .«src_sel»)) 1)) ∙ ap (λ (z : List ℕ). getD z 0 0) (sym g)
+  -- THEOREM. The run of an operation that begins a script is the script's: answer, log, buffer.
+  pub whole-call : Called c log buffer rs s buffer₁ log₁
+  whole-call = go (isGoing (statusIn (begin c [] 0))) refl
+    where
+      go : (x : Bool) → isGoing (statusIn (begin c [] 0)) ≡ x → Called c log buffer rs s buffer₁ log₁
+      go true e = goes e
+      go false e = is-over e

@@ -22,12 +22,13 @@ use Rattle.qspi_transfer.specs.Wire.{waits}
 use Rattle.qspi_script.specs.Turns.{largestChunk}
 use Rattle.qspi_script.specs.declared.Status.{Status}
 use Rattle.qspi_script.specs.declared.Status.the-variants.{Done, EraseErrorBitSet, ProgrammingErrorBitSet}
-use Rattle.qspi_calls.specs.Machine.{Action, write, drain, reply, Midway, first, again, ready, proceed, Want, reads, writes, Transfer, replicate, Script, ends, exchange, State, going, ended, begin, want, next, Result, halt, logging, made, runs, called}
+use Rattle.qspi_operation.specs.Machine.{Action, write, drain, reply, Midway, first, again, ready, proceed, Want, reads, writes, Transfer, replicate, Script, ends, exchange, State, going, ended, begin, want, next, Result, halt, logging, made, runs, called}
 use Rattle.qspi_calls.specs.Chunks.{Chunk, chunks}
-use Rattle.qspi_calls.specs.Machine as machine
+use Rattle.qspi_operation.specs.Machine as machine
 use Rattle.qspi_calls.specs.Calls as call
 use Rattle.qspi_calls.specs.Calls.{enabling, statusReading, top, done}
-use Rattle.qspi_calls.specs.Prompt.{Prompt, taking, closing, replying, promptly, repliesOf}
+use Rattle.qspi_calls.specs.Prompt.{Prompt, taking, closing, replying, promptly}
+use Rattle.qspi_operation.specs.Machine.{repliesOf}
 
 -- a call makes these accesses and stands there afterwards
 pub data Plays : State → List Access → State → Type 0 where

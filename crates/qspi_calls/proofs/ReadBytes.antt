@@ -12,7 +12,7 @@ use borrow.Author.Tests.{leb-true, leb-false, ltb-true, ltb-false}
 use Rattle.zedboard_bsp.specs.Words.{bytesOf}
 use Rattle.qspi_script.specs.declared.Place.{Place}
 use Rattle.qspi_operation.specs.Store.{when, storeByte, storeReply}
-use Rattle.qspi_calls.specs.Machine.{overlaid}
+use Rattle.qspi_operation.specs.Machine.{overlaid}
 use Rattle.qspi_calls.specs.Calls.{bytesOfAll, bytesRead}
 
 snoc-all : (l : List ℕ) (v : ℕ) → bytesOfAll (l ++ v ∷ []) ≡ bytesOfAll l ++ bytesOf v

@@ -20,6 +20,7 @@ use Rattle.qspi_script.specs.Turns as turns
 use Rattle.qspi_script.specs.declared.Stage.the-variants as stage
 use Rattle.qspi_script.specs.declared.Status.{Status}
 use Rattle.qspi_script.specs.declared.Status.the-variants.{Going, Done, AddressSpan}
+use Rattle.qspi_script.specs.Answer.{saidBy}
 use Rattle.qspi_script.specs.declared.Job.{Job}
 use Rattle.qspi_script.specs.declared.Place.{Place}
 use Rattle.qspi_script.specs.declared.Turned.{Turned}
@@ -28,16 +29,15 @@ use Rattle.qspi_operation.specs.Store.{stored, skipped, storeReply}
 use Rattle.qspi_operation.specs.Step.{isGoing, accessOf, movedBy, turnedTo}
 use Rattle.qspi_operation.proofs.Verdicts.{no}
 use Rattle.qspi_transfer.specs.Wire.{waits, freshWire}
-use Rattle.qspi_calls.specs.Machine.{Action, write, drain, reply, Midway, first, full, again, ready, stays, over, replicate, closing, replying, proceed, Want, nothing, progress, Transfer, Script, ends, perform, State, going, ended, onward, begin, moves, want, next, statusIn, valuesIn, bytesIn, countIn, overlaid}
+use Rattle.qspi_operation.specs.Machine.{Action, write, drain, reply, Midway, first, full, again, ready, stays, over, replicate, closing, replying, proceed, Want, nothing, progress, Transfer, Script, ends, perform, State, going, ended, onward, begin, moves, want, next, statusIn, valuesIn, bytesIn, countIn, overlaid}
 use Rattle.qspi_calls.specs.Calls as call
 use Rattle.qspi_calls.specs.Calls.{zeros, zeroWords, reading, readCommand, bytesOfAll, bytesRead, readFrom, refused}
 use Rattle.qspi_calls.specs.Starts as start
-use Rattle.qspi_calls.proofs.Tied.{asked, after, Tie}
+use Rattle.qspi_calls.proofs.Tied.{asked, after, given, Tie, Starts}
 use Rattle.qspi_calls.proofs.Phases.{wire, words, Same, AtPhase, p-drain, p-data, p-open, p-opens, p-enable, p-send, p-start, p-starts, p-wait, p-again, p-take, p-close, p-closes, p-end, due-same, Goes, goes-on, goes-over, wire-same}
 use Rattle.qspi_calls.proofs.Scripted.{some-want}
-use Rattle.qspi_calls.proofs.Short.{no-values, ended-at-start}
+use Rattle.qspi_calls.proofs.Short.{ended-at-start}
 use Rattle.qspi_calls.proofs.ReadBytes.{length-all, more-bytes, one-reply}
-use Rattle.qspi_calls.proofs.Whole.{Starts}
 
 length-zeros : (n : ℕ) → length (zeros n) ≡ n
 length-zeros zero = refl
@@ -166,7 +166,7 @@ module _ (fast dummy : Bool) (a n : ℕ) (log old : List ℕ) (span : a + n ≤ 
   r-ends p w s z (rel-on q h) e = no (sym e)
   r-ends p w s z (rel-over g) e = (refl, refl)
 
-  r-values : (p : Place) (w : Wire) (s : Status) (z : State) → Rel p w s z → isGoing s ≡ false → valuesIn z ≡ []
+  r-values : (p : Place) (w : Wire) (s : Status) (z : State) → Rel p w s z → isGoing s ≡ false → saidBy s (given job w) ≡ saidBy s (valuesIn z)
   r-values p w s z (rel-on q h) e = no (sym e)
   r-values p w s z (rel-over g) e = refl
 
@@ -238,10 +238,10 @@ module _ (fast dummy : Bool) (a n : ℕ) (log old : List ℕ) (span : a + n ≤ 
   r-keeps p w z v (rel-on q (p-closes e)) = refl
   r-keeps p w z v (rel-on q (p-end {taken = taken} e)) = same-buffer (over-bytes q taken [])
 
-  r-tie : Tie job [] old no-values Rel
-  r-tie = record { due = r-due; some = r-some; steps = r-steps; over = r-ends; values = r-values; counts = r-counts; no-values = λ w. (refl, refl); keeps = r-keeps }
+  r-tie : Tie job [] old Rel
+  r-tie = record { due = r-due; some = r-some; steps = r-steps; over = r-ends; values = r-values; counts = r-counts; keeps = r-keeps }
 
-  read-going : 0 < n → Starts (start.going job (at 0)) [] log old no-values (readFrom n fast dummy a n)
+  read-going : 0 < n → Starts (start.going job (at 0)) [] log old (readFrom n fast dummy a n)
   read-going h =
       let z : eqb (chunk 0) 0 ≡ false = ne-eqb (chunk 0) 0 (λ y. omega (arith, flag-le dummy)) in
       let e : a + 0 ≡ a = omega arith in
@@ -262,16 +262,16 @@ module _ (fast dummy : Bool) (a n : ℕ) (log old : List ℕ) (span : a + n ≤ 
         unread = begun-bytes n a n [];
       }
 
-pub read : (fast dummy : Bool) (a : ℕ) (log old : List ℕ) → Starts (start.readOf a fast dummy (length old) (length log)) [] log old no-values (call.read fast dummy a (length old))
+pub read : (fast dummy : Bool) (a : ℕ) (log old : List ℕ) → Starts (start.readOf a fast dummy (length old) (length log)) [] log old (call.read fast dummy a (length old))
 read fast dummy a log old = go (ltb 4294967296 (a + length old)) refl
   where
     empty : (b : Bool) → eqb (length old) 0 ≡ b → a + length old ≤ 4294967296
-        → Starts (start.pick b (start.over (start.readingJob a fast dummy (length old) (length log)) Done) (start.going (start.readingJob a fast dummy (length old) (length log)) (start.placeAt stage.Read (nextChunk (length old) 0 dummy) 0 0))) [] log old no-values (readFrom (length old) fast dummy a (length old))
-    empty true e h = rw (eqb-true (length old) 0 e) (ended-at-start (start.readingJob a fast dummy 0 (length log)) [] log old Done refl refl refl (eqb-true (length old) 0 e))
+        → Starts (start.pick b (start.over (start.readingJob a fast dummy (length old) (length log)) Done) (start.going (start.readingJob a fast dummy (length old) (length log)) (start.placeAt stage.Read (nextChunk (length old) 0 dummy) 0 0))) [] log old (readFrom (length old) fast dummy a (length old))
+    empty true e h = rw (eqb-true (length old) 0 e) (ended-at-start (start.readingJob a fast dummy 0 (length log)) [] log old Done refl (λ w. refl) refl refl (eqb-true (length old) 0 e))
     empty false e h = read-going fast dummy a (length old) log old h refl (let z : length old ≡ 0 → ⊥ = eqb-false (length old) 0 e in omega (arith, z))
 
     go : (b : Bool) → ltb 4294967296 (a + length old) ≡ b
-        → Starts (start.pick b (start.over (start.readingJob a fast dummy (length old) (length log)) AddressSpan) (start.pick (eqb (length old) 0) (start.over (start.readingJob a fast dummy (length old) (length log)) Done) (start.going (start.readingJob a fast dummy (length old) (length log)) (start.placeAt stage.Read (nextChunk (length old) 0 dummy) 0 0)))) [] log old no-values
+        → Starts (start.pick b (start.over (start.readingJob a fast dummy (length old) (length log)) AddressSpan) (start.pick (eqb (length old) 0) (start.over (start.readingJob a fast dummy (length old) (length log)) Done) (start.going (start.readingJob a fast dummy (length old) (length log)) (start.placeAt stage.Read (nextChunk (length old) 0 dummy) 0 0)))) [] log old
         (onward b (refused AddressSpan) (readFrom (length old) fast dummy a (length old)))
-    go true e = ended-at-start _ [] log old AddressSpan refl refl refl refl
+    go true e = ended-at-start _ [] log old AddressSpan refl (λ w. refl) refl refl refl
     go false e = empty (eqb (length old) 0) refl (ltb-false 4294967296 (a + length old) e)

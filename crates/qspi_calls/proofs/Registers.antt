@@ -21,7 +21,7 @@ use Rattle.qspi_calls.specs.declared.start.Config.{Config}
 use Rattle.qspi_calls.specs.declared.start.Latency.{Latency}
 use Rattle.qspi_calls.specs.declared.start.Latency.the-variants.{AsRead, Code}
 use Rattle.qspi_calls.specs.Chunks.{Chunk, chunks}
-use Rattle.qspi_calls.specs.Machine.{Action, write, modify, drain, reply, Midway, first, full, changed, again, ready, Want, reads, writes, nothing, wantAt, Progress, stays, over, takes, progress, Transfer, replicate, opening, Script, ends, perform, repeats, counts, exchange, State, going, ended, onward, begin, proceed, moves, want, next, Result, noRoom, made, runs, called}
+use Rattle.qspi_operation.specs.Machine.{Action, write, modify, drain, reply, Midway, first, full, changed, again, ready, Want, reads, writes, nothing, wantAt, Progress, stays, over, takes, progress, Transfer, replicate, opening, Script, ends, perform, repeats, counts, exchange, State, going, ended, onward, begin, proceed, moves, want, next, Result, noRoom, made, runs, called}
 use Rattle.qspi_calls.specs.Calls as call
 
 -- ---- scripts whose writes go to registers

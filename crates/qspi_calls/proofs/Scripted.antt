@@ -14,7 +14,8 @@ use Rattle.qspi_transfer.specs.declared.Wire.{Wire}
 use Rattle.qspi_script.specs.Stages.{frameOf, dueWord}
 use Rattle.qspi_script.specs.Turns.{turnOf}
 use Rattle.qspi_script.specs.declared.Status.{Status}
-use Rattle.qspi_script.specs.declared.Status.the-variants.{Going, Done, RepliesEnded, LogFull}
+use Rattle.qspi_script.specs.declared.Status.the-variants.{Going}
+use Rattle.qspi_script.specs.Answer.{saidBy}
 use Rattle.qspi_script.specs.declared.Job.{Job}
 use Rattle.qspi_script.specs.declared.Place.{Place}
 use Rattle.qspi_script.specs.declared.Turned.{Turned}
@@ -22,8 +23,8 @@ use Rattle.qspi_operation.specs.declared.Op.{Op}
 use Rattle.qspi_operation.specs.Store.{when, stored, isReading, isTaking}
 use Rattle.qspi_operation.specs.Step.{isGoing, accessOf, moved, movedBy, programmedAt}
 use Rattle.qspi_operation.proofs.Verdicts.{no}
-use Rattle.qspi_calls.specs.Machine.{Action, drain, Midway, first, Want, nothing, wantAt, progress, Transfer, opening, Script, ends, perform, repeats, counts, none, exchange, State, going, ended, onward, begin, moves, want, next, statusIn, valuesIn, bytesIn, countIn, overlaid}
-use Rattle.qspi_calls.proofs.Tied.{asked, after, Tie}
+use Rattle.qspi_operation.specs.Machine.{Action, drain, Midway, first, Want, nothing, wantAt, progress, Transfer, opening, Script, ends, perform, repeats, counts, none, exchange, State, going, ended, onward, begin, moves, want, next, statusIn, valuesIn, bytesIn, countIn, overlaid}
+use Rattle.qspi_calls.proofs.Tied.{asked, after, given, Tie}
 use Rattle.qspi_calls.proofs.Phases.{wire, words, Same, AtPhase, p-drain, p-data, p-open, p-opens, p-enable, p-send, p-start, p-starts, p-wait, p-again, p-take, p-close, p-closes, p-end, due-same, Goes, goes-on, goes-over, wire-same}
 
 -- something is due in every phase
@@ -43,13 +44,13 @@ some-want (p-close f) e = let z : _≡_ {A = ℕ} 0 1 = cc in omega arith
 some-want (p-closes f) e = let z : _≡_ {A = ℕ} 0 1 = cc in omega arith
 some-want (p-end f) e = let z : _≡_ {A = ℕ} 0 1 = cc in omega arith
 
-module _ (job : Job) (bytes buffer₀ : List ℕ) (Values : Status → Wire → List ℕ) (At : Place → Transfer → (List ℕ → Script) → Type 0) where
+module _ (job : Job) (bytes buffer₀ : List ℕ) (At : Place → Transfer → (List ℕ → Script) → Type 0) where
   -- after a transfer, with so many bytes programmed: another one, the same one again, the end, or more bytes programmed
   pub data Turns (t : Turned) (w : Wire) : ℕ → Script → Type 0 where
     on : {n : ℕ} {x : Transfer} {k : List ℕ → Script} → t .status ≡ Going → n ≡ programmedAt job (t .place) → At (t .place) x k → Turns t w n (exchange x k)
     again : {n : ℕ} {x : Transfer} {still : List ℕ → Bool} {k : List ℕ → Script} → t .status ≡ Going → n ≡ programmedAt job (t .place)
         → At (t .place) x (λ rs. onward (still rs) (repeats drain (opening x) still k) (k rs)) → Turns t w n (repeats drain (opening x) still k)
-    over : {n : ℕ} {a : Status} {vs : List ℕ} → isGoing a ≡ false → t .status ≡ a → n ≡ programmedAt job (t .place) → vs ≡ Values a w → Turns t w n (ends a vs)
+    over : {n : ℕ} {a : Status} {vs : List ℕ} → isGoing a ≡ false → t .status ≡ a → n ≡ programmedAt job (t .place) → saidBy a (given job w) ≡ saidBy a vs → Turns t w n (ends a vs)
     more : {n j : ℕ} {z : Script} → Turns t w (n + j) z → Turns t w n (counts j z)
 
   pub record Scripted : Type 0 where
@@ -58,12 +59,11 @@ module _ (job : Job) (bytes buffer₀ : List ℕ) (Values : Status → Wire → 
     pub turn : (p : Place) (x : Transfer) (k : List ℕ → Script) → At p x k → (c i b : ℕ) (taken : List ℕ) → length taken ≡ x .replies
         → Turns (turnOf job p (getD taken 0 0)) (wire Disable c i b taken) (programmedAt job p) (k (reverse taken))
     pub unread : (p : Place) (x : Transfer) (k : List ℕ → Script) → At p x k → isReading (p .stage) ≡ false
-    pub no-values : (w : Wire) → (Values RepliesEnded w ≡ []) × (Values LogFull w ≡ [])
 
   pub data Rel : Place → Wire → Status → State → Type 0 where
     rel-on : {p : Place} {w : Wire} {x : Transfer} {k : List ℕ → Script} {m : Midway} {a : Action} {l : List Action} {taken : List ℕ} {n : ℕ} → n ≡ programmedAt job p → At p x k → AtPhase x w m a l taken
         → Rel p w Going (going m a l taken none k [] n)
-    rel-over : {p : Place} {w : Wire} {a : Status} {vs : List ℕ} {n : ℕ} → n ≡ programmedAt job p → isGoing a ≡ false → vs ≡ Values a w → Rel p w a (ended a vs [] n)
+    rel-over : {p : Place} {w : Wire} {a : Status} {vs : List ℕ} {n : ℕ} → n ≡ programmedAt job p → isGoing a ≡ false → saidBy a (given job w) ≡ saidBy a vs → Rel p w a (ended a vs [] n)
 
   module _ (s : Scripted) where
     abbrev o : Place → Wire → Op
@@ -96,7 +96,7 @@ module _ (job : Job) (bytes buffer₀ : List ℕ) (Values : Status → Wire → 
     rel-ends p w a z (rel-on c q h) e = no (sym e)
     rel-ends p w a z (rel-over c g f) e = (refl, refl)
 
-    rel-values : (p : Place) (w : Wire) (a : Status) (z : State) → Rel p w a z → isGoing a ≡ false → valuesIn z ≡ Values a w
+    rel-values : (p : Place) (w : Wire) (a : Status) (z : State) → Rel p w a z → isGoing a ≡ false → saidBy a (given job w) ≡ saidBy a (valuesIn z)
     rel-values p w a z (rel-on c q h) e = no (sym e)
     rel-values p w a z (rel-over c g f) e = f
 
@@ -125,5 +125,5 @@ module _ (job : Job) (bytes buffer₀ : List ℕ) (Values : Status → Wire → 
         unstored p w v (overlaid (bytesIn z) buffer₀) (rel-unread p w z q)
         ∙ ap (λ (b : List ℕ). overlaid b buffer₀) (rel-bytes q ∙ sym (rel-bytes (rel-steps p w z v q)))
 
-    pub script-tie : Tie job bytes buffer₀ Values Rel
-    script-tie = record { due = rel-due; some = rel-some; steps = rel-steps; over = rel-ends; values = rel-values; counts = rel-counts; no-values = s .no-values; keeps = rel-keeps }
+    pub script-tie : Tie job bytes buffer₀ Rel
+    script-tie = record { due = rel-due; some = rel-some; steps = rel-steps; over = rel-ends; values = rel-values; counts = rel-counts; keeps = rel-keeps }

@@ -25,8 +25,8 @@ use Rattle.qspi_script.specs.declared.Turned.{Turned}
 use Rattle.qspi_operation.specs.declared.Op.{Op}
 use Rattle.qspi_operation.specs.Store.{isReading}
 use Rattle.qspi_operation.specs.Step.{isGoing, programmedAt}
-use Rattle.qspi_calls.specs.Machine.{Transfer, Script, ends, repeats, exchange, onward, drain, opening}
-use Rattle.qspi_calls.specs.Machine as machine
+use Rattle.qspi_operation.specs.Machine.{Transfer, Script, ends, repeats, exchange, onward, drain, opening}
+use Rattle.qspi_operation.specs.Machine as machine
 use Rattle.qspi_calls.specs.Calls as call
 use Rattle.qspi_calls.specs.Calls.{short, enabling, disabling, clearing, statusReading, configReading, statusWriting, registersWriting, top, done, refused}
 use Rattle.qspi_calls.specs.Starts as start
@@ -35,8 +35,8 @@ use Rattle.qspi_calls.specs.declared.start.Latency.{Latency}
 use Rattle.qspi_calls.specs.declared.start.Latency.the-variants.{AsRead, Code}
 use Rattle.qspi_calls.proofs.Phases.{wire, words, Same, p-drain}
 use Rattle.qspi_calls.proofs.Scripted.{Turns, on, again, over, Scripted, Rel, rel-on, script-tie, turned, rel-bytes}
-use Rattle.qspi_calls.proofs.Short.{of-one, same-short, word-short, no-values, ended-at-start}
-use Rattle.qspi_calls.proofs.Whole.{Starts}
+use Rattle.qspi_calls.proofs.Short.{of-one, same-short, word-short, ended-at-start}
+use Rattle.qspi_calls.proofs.Tied.{given, Starts}
 use Rattle.qspi_calls.proofs.ProgramWords.{length-words, data-word}
 
 -- ---- starting
@@ -45,16 +45,16 @@ abbrev pub Stages : Type 1
 Stages = Place → Transfer → (List ℕ → Script) → Type 0
 
 -- a call that begins with a transfer of its script
-begins : (job : Job) (bytes log : List ℕ) (At : Stages) → Scripted job bytes [] no-values At → (p : Place) (x : Transfer) (k : List ℕ → Script) → At p x k
-    → 0 ≡ programmedAt job p → length bytes ≡ job .lent .«data» → length log ≡ job .lent .log → 0 ≡ job .lent .buffer → Starts (start.going job p) bytes log [] no-values (exchange x k)
+begins : (job : Job) (bytes log : List ℕ) (At : Stages) → Scripted job bytes [] At → (p : Place) (x : Transfer) (k : List ℕ → Script) → At p x k
+    → 0 ≡ programmedAt job p → length bytes ≡ job .lent .«data» → length log ≡ job .lent .log → 0 ≡ job .lent .buffer → Starts (start.going job p) bytes log [] (exchange x k)
 begins job bytes log At s p x k q n d l b = record {
   job = job;
   place = p;
   wire = _;
   status = Going;
   is = refl;
-  Rel = Rel job bytes [] no-values At;
-  tie = script-tie job bytes [] no-values At s;
+  Rel = Rel job bytes [] At;
+  tie = script-tie job bytes [] At s;
   rel = rel-on n q p-drain;
   lent-data = d;
   lent-log = l;
@@ -63,29 +63,29 @@ begins job bytes log At s p x k q n d l b = record {
 }
 
 -- a call that begins where a turn leads
-pub opens : (job : Job) (bytes log : List ℕ) (At : Stages) → Scripted job bytes [] no-values At → (t : Turned) (z : Script) → Turns job bytes [] no-values At t (freshWire phase.DrainStatus) 0 z
-    → length bytes ≡ job .lent .«data» → length log ≡ job .lent .log → 0 ≡ job .lent .buffer → Starts (start.opened job t) bytes log [] no-values z
+pub opens : (job : Job) (bytes log : List ℕ) (At : Stages) → Scripted job bytes [] At → (t : Turned) (z : Script) → Turns job bytes [] At t (freshWire phase.DrainStatus) 0 z
+    → length bytes ≡ job .lent .«data» → length log ≡ job .lent .log → 0 ≡ job .lent .buffer → Starts (start.opened job t) bytes log [] z
 opens job bytes log At s t z q d l b = record {
   job = job;
   place = t .place;
   wire = pickWire (isGoing (t .status)) (freshWire phase.DrainStatus) (freshWire phase.DrainStatus);
   status = t .status;
   is = ap (λ (w : Wire). record { job = job; place = t .place; wire = w; used = 0; replies = 0; status = t .status }) (sym (one-wire (isGoing (t .status)) (freshWire phase.DrainStatus)));
-  Rel = Rel job bytes [] no-values At;
-  tie = script-tie job bytes [] no-values At s;
-  rel = turned job bytes [] no-values At s (freshWire phase.DrainStatus) t q;
+  Rel = Rel job bytes [] At;
+  tie = script-tie job bytes [] At s;
+  rel = turned job bytes [] At s (freshWire phase.DrainStatus) t q;
   lent-data = d;
   lent-log = l;
   lent-buffer = b;
-  unread = rel-bytes job bytes [] no-values At s (turned job bytes [] no-values At s (freshWire phase.DrainStatus) t q);
+  unread = rel-bytes job bytes [] At s (turned job bytes [] At s (freshWire phase.DrainStatus) t q);
 }
   where
     one-wire : (b : Bool) (w : Wire) → pickWire b w w ≡ w
     one-wire true w = refl
     one-wire false w = refl
 
-pub either : (bytes log : List ℕ) (b : Bool) {o₁ o₂ : Op} {c₁ c₂ : Script} → (b ≡ true → Starts o₁ bytes log [] no-values c₁) → (b ≡ false → Starts o₂ bytes log [] no-values c₂)
-    → Starts (start.pick b o₁ o₂) bytes log [] no-values (onward b c₁ c₂)
+pub either : (bytes log : List ℕ) (b : Bool) {o₁ o₂ : Op} {c₁ c₂ : Script} → (b ≡ true → Starts o₁ bytes log [] c₁) → (b ≡ false → Starts o₂ bytes log [] c₂)
+    → Starts (start.pick b o₁ o₂) bytes log [] (onward b c₁ c₂)
 either bytes log true h₁ h₂ = h₁ refl
 either bytes log false h₁ h₂ = h₂ refl
 
@@ -93,7 +93,7 @@ either bytes log false h₁ h₂ = h₂ refl
 
 module _ (job : Job) (bytes : List ℕ) (At : Stages) where
   abbrev Turn : Turned → Wire → ℕ → Script → Type 0
-  Turn t w n z = Turns job bytes [] no-values At t w n z
+  Turn t w n z = Turns job bytes [] At t w n z
 
   -- a transfer of one reply
   one-reply : (p : Place) (c i b : ℕ) (taken : List ℕ) (k : List ℕ → Script) → length taken ≡ 1 → ((r : ℕ) → Turn (turnOf job p r) (wire phase.Disable c i b (r ∷ [])) (programmedAt job p) (k (r ∷ [])))
@@ -125,7 +125,7 @@ module _ (s : Stage) (x : Transfer) (sr cr : ℕ) (log : List ℕ) where
     e-word p y k first-then = word
 
     e-turn : (p : Place) (y : Transfer) (k : List ℕ → Script) → Enabled p y k → (c i b : ℕ) (taken : List ℕ) → length taken ≡ y .replies
-        → Turns enabled-job [] [] no-values Enabled (turnOf enabled-job p (getD taken 0 0)) (wire phase.Disable c i b taken) (programmedAt enabled-job p) (k (reverse taken))
+        → Turns enabled-job [] [] Enabled (turnOf enabled-job p (getD taken 0 0)) (wire phase.Disable c i b taken) (programmedAt enabled-job p) (k (reverse taken))
     e-turn p y k first-enable c i b taken e = one-reply enabled-job [] Enabled p c i b taken k e (λ r. on going refl first-then)
     e-turn p y k first-then c i b taken e = one-reply enabled-job [] Enabled p c i b taken k (e ∙ one) (λ r. rw (ends-here r) (over refl refl refl refl))
 
@@ -133,13 +133,13 @@ module _ (s : Stage) (x : Transfer) (sr cr : ℕ) (log : List ℕ) where
     e-unread p y k first-enable = refl
     e-unread p y k first-then = unread
 
-    pub enabled-then : Starts (start.enabledThen s sr cr (length log)) [] log [] no-values (call.enabledThen x)
-    enabled-then = begins enabled-job [] log Enabled (record { same = e-same; word = e-word; turn = e-turn; unread = e-unread; no-values = λ w. (refl, refl) }) _ _ _ first-enable refl refl refl refl
+    pub enabled-then : Starts (start.enabledThen s sr cr (length log)) [] log [] (call.enabledThen x)
+    enabled-then = begins enabled-job [] log Enabled (record { same = e-same; word = e-word; turn = e-turn; unread = e-unread }) _ _ _ first-enable refl refl refl refl
 
-pub write-status : (sr : ℕ) (log : List ℕ) → Starts (start.enabledThen stage.WriteStatus sr 0 (length log)) [] log [] no-values (call.writeStatus sr)
+pub write-status : (sr : ℕ) (log : List ℕ) → Starts (start.enabledThen stage.WriteStatus sr 0 (length log)) [] log [] (call.writeStatus sr)
 write-status sr log = enabled-then stage.WriteStatus (statusWriting sr) sr 0 log refl (λ r. refl) (same-short 0x84 _) (word-short (start.commandJob (start.enabled stage.WriteStatus) (length log)) (start.placeAt stage.WriteStatus 0 sr 0) [] 0x84 _ refl) refl refl
 
-pub write-registers : (sr cr : ℕ) (log : List ℕ) → Starts (start.enabledThen stage.WriteRegisters sr cr (length log)) [] log [] no-values (call.writeRegisters sr cr)
+pub write-registers : (sr cr : ℕ) (log : List ℕ) → Starts (start.enabledThen stage.WriteRegisters sr cr (length log)) [] log [] (call.writeRegisters sr cr)
 write-registers sr cr log = enabled-then stage.WriteRegisters (registersWriting sr cr) sr cr log refl (λ r. refl) (same-short 0x88 _) (word-short (start.commandJob (start.enabled stage.WriteRegisters) (length log)) (start.placeAt stage.WriteRegisters 0 sr cr) [] 0x88 _ refl) refl refl
 
 -- ---- new
@@ -172,14 +172,14 @@ module _ (quad setLatency : Bool) (latency : ℕ) (clear : Bool) (log : List ℕ
   n-word p y k new-enable = word-short new-job p [] 0x80 _ refl
   n-word p y k new-write = word-short new-job p [] 0x88 _ refl
 
-  may-update : (q l c : Bool) {w : Wire} → Turns new-job [] [] no-values New (begin (start.placeAt stage.Clear 0 0 0) (start.mayUpdate q l c)) w 0 (onward (q || (l || c)) (call.configuring quad setLatency latency clear) (ends Done []))
+  may-update : (q l c : Bool) {w : Wire} → Turns new-job [] [] New (begin (start.placeAt stage.Clear 0 0 0) (start.mayUpdate q l c)) w 0 (onward (q || (l || c)) (call.configuring quad setLatency latency clear) (ends Done []))
   may-update true l c = on refl refl new-config
   may-update false true c = on refl refl new-config
   may-update false false true = on refl refl new-config
   may-update false false false = over refl refl refl refl
 
   n-turn : (p : Place) (y : Transfer) (k : List ℕ → Script) → New p y k → (c i b : ℕ) (taken : List ℕ) → length taken ≡ y .replies
-      → Turns new-job [] [] no-values New (turnOf new-job p (getD taken 0 0)) (wire phase.Disable c i b taken) (programmedAt new-job p) (k (reverse taken))
+      → Turns new-job [] [] New (turnOf new-job p (getD taken 0 0)) (wire phase.Disable c i b taken) (programmedAt new-job p) (k (reverse taken))
   n-turn p y k new-clear c i b taken e = one-reply new-job [] New p c i b taken k e (λ r. may-update quad setLatency clear)
   n-turn p y k new-config c i b taken e = one-reply new-job [] New p c i b taken k e (λ r. on refl refl new-status)
   n-turn p y k (new-status {cr}) c i b taken e =
@@ -195,12 +195,12 @@ module _ (quad setLatency : Bool) (latency : ℕ) (clear : Bool) (log : List ℕ
   n-unread p y k new-enable = refl
   n-unread p y k new-write = refl
 
-  new-scripted : Scripted new-job [] [] no-values New
-  new-scripted = record { same = n-same; word = n-word; turn = n-turn; unread = n-unread; no-values = λ w. (refl, refl) }
+  new-scripted : Scripted new-job [] [] New
+  new-scripted = record { same = n-same; word = n-word; turn = n-turn; unread = n-unread }
 
-  pub new-with : Starts (start.newWith quad setLatency latency clear (length log)) [] log [] no-values (call.newWith quad setLatency latency clear)
+  pub new-with : Starts (start.newWith quad setLatency latency clear (length log)) [] log [] (call.newWith quad setLatency latency clear)
   new-with =
-      either [] log (ltb 3 latency) (λ e. ended-at-start new-job [] log [] FieldTooWide refl refl refl refl)
+      either [] log (ltb 3 latency) (λ e. ended-at-start new-job [] log [] FieldTooWide refl (λ w. refl) refl refl refl)
       (λ e. begins new-job [] log New new-scripted _ _ _ new-clear refl refl refl refl)
 
 -- ---- set_write_protection
@@ -228,7 +228,7 @@ module _ (protection : ℕ) (log : List ℕ) where
   t-word p y k protect-write = word-short protecting-job p [] 0x88 _ refl
 
   t-turn : (p : Place) (y : Transfer) (k : List ℕ → Script) → Protect p y k → (c i b : ℕ) (taken : List ℕ) → length taken ≡ y .replies
-      → Turns protecting-job [] [] no-values Protect (turnOf protecting-job p (getD taken 0 0)) (wire phase.Disable c i b taken) (programmedAt protecting-job p) (k (reverse taken))
+      → Turns protecting-job [] [] Protect (turnOf protecting-job p (getD taken 0 0)) (wire phase.Disable c i b taken) (programmedAt protecting-job p) (k (reverse taken))
   t-turn p y k protect-status c i b taken e = one-reply protecting-job [] Protect p c i b taken k e (λ r. on refl refl protect-config)
   t-turn p y k protect-config c i b taken e = one-reply protecting-job [] Protect p c i b taken k e (λ r. on refl refl protect-enable)
   t-turn p y k protect-enable c i b taken e = one-reply protecting-job [] Protect p c i b taken k e (λ r. on refl refl protect-write)
@@ -240,12 +240,12 @@ module _ (protection : ℕ) (log : List ℕ) where
   t-unread p y k protect-enable = refl
   t-unread p y k protect-write = refl
 
-  protect-scripted : Scripted protecting-job [] [] no-values Protect
-  protect-scripted = record { same = t-same; word = t-word; turn = t-turn; unread = t-unread; no-values = λ w. (refl, refl) }
+  protect-scripted : Scripted protecting-job [] [] Protect
+  protect-scripted = record { same = t-same; word = t-word; turn = t-turn; unread = t-unread }
 
-  pub set-write-protection : Starts (start.setWriteProtection protection (length log)) [] log [] no-values (call.setWriteProtection protection)
+  pub set-write-protection : Starts (start.setWriteProtection protection (length log)) [] log [] (call.setWriteProtection protection)
   set-write-protection =
-      either [] log (ltb 7 protection) (λ e. ended-at-start protecting-job [] log [] FieldTooWide refl refl refl refl)
+      either [] log (ltb 7 protection) (λ e. ended-at-start protecting-job [] log [] FieldTooWide refl (λ w. refl) refl refl refl)
       (λ e. begins protecting-job [] log Protect protect-scripted _ _ _ protect-status refl refl refl refl)
 
 -- ---- erase and program: the work, then the status until it is settled
@@ -272,7 +272,7 @@ module _ (work : Stage) (erases pages : Bool) (failure : Status) (bit a : ℕ) (
   module _ (going : statusOf work ≡ Going) (polls : (d n r : ℕ) → turnAt work work-job (work-at work d n) r ≡ begin (work-at work d n) stage.Poll)
       (same : (d n : ℕ) (x : Transfer) (then : Script) → Ready d n x then → Same (frameAt work work-job n) x)
       (word : (d n : ℕ) (x : Transfer) (then : Script) → Ready d n x then → (i : ℕ) → i < length (words x) → dueWord work-job (work-at work d n) i bytes ≡ getD (words x) i 0)
-      (clean : (d n : ℕ) (x : Transfer) (then : Script) (w : Wire) → Ready d n x then → Turns work-job bytes [] no-values Working (settled work-job (work-at stage.Poll d n)) w (programmedAt work-job (work-at stage.Poll d n)) then)
+      (clean : (d n : ℕ) (x : Transfer) (then : Script) (w : Wire) → Ready d n x then → Turns work-job bytes [] Working (settled work-job (work-at stage.Poll d n)) w (programmedAt work-job (work-at stage.Poll d n)) then)
       (unread : isReading work ≡ false) (fails : isGoing failure ≡ false) (error : (st : ℕ) → failed (work-job .script) st ≡ isSet bit st) where
     w-same : (p : Place) (y : Transfer) (k : List ℕ → Script) → Working p y k → Same (frameOf work-job p) y
     w-same p y k (settle-enable q) = same-short 0x80 _
@@ -289,14 +289,14 @@ module _ (work : Stage) (erases pages : Bool) (failure : Status) (bit a : ℕ) (
     w-word p y k settle-disable = word-short work-job p bytes 0x80 _ refl
 
     polled : (d n : ℕ) (x : Transfer) (then : Script) (e b : Bool) (w : Wire) → Ready d n x then
-        → Turns work-job bytes [] no-values Working (pick e (begin (work-at stage.Poll d n) stage.Clear) (pick b (begin (work-at stage.Poll d n) stage.Poll) (settled work-job (work-at stage.Poll d n)))) w (programmedAt work-job (work-at stage.Poll d n))
+        → Turns work-job bytes [] Working (pick e (begin (work-at stage.Poll d n) stage.Clear) (pick b (begin (work-at stage.Poll d n) stage.Poll) (settled work-job (work-at stage.Poll d n)))) w (programmedAt work-job (work-at stage.Poll d n))
         (onward (not e && b) (call.settling bit failure then) (onward e (call.failing failure) then))
     polled d n x then true b w q = on refl refl settle-clear
     polled d n x then false true w q = again refl refl (settle-poll q)
     polled d n x then false false w q = clean d n x then w q
 
     w-turn : (p : Place) (y : Transfer) (k : List ℕ → Script) → Working p y k → (c i b : ℕ) (taken : List ℕ) → length taken ≡ y .replies
-        → Turns work-job bytes [] no-values Working (turnOf work-job p (getD taken 0 0)) (wire phase.Disable c i b taken) (programmedAt work-job p) (k (reverse taken))
+        → Turns work-job bytes [] Working (turnOf work-job p (getD taken 0 0)) (wire phase.Disable c i b taken) (programmedAt work-job p) (k (reverse taken))
     w-turn p y k (settle-enable q) c i b taken e = one-reply work-job bytes Working p c i b taken k e (λ r. on going refl (settle-work q))
     w-turn p y k (settle-work {d} {n} q) c i b taken e = rw (polls d n (getD taken 0 0)) (again refl refl (settle-poll q))
     w-turn p y k (settle-poll {d} {n} {x} {then} q) c i b taken e =
@@ -311,8 +311,8 @@ module _ (work : Stage) (erases pages : Bool) (failure : Status) (bit a : ℕ) (
     w-unread p y k settle-clear = refl
     w-unread p y k settle-disable = refl
 
-    pub working-scripted : Scripted work-job bytes [] no-values Working
-    working-scripted = record { same = w-same; word = w-word; turn = w-turn; unread = w-unread; no-values = λ w. (refl, refl) }
+    pub working-scripted : Scripted work-job bytes [] Working
+    working-scripted = record { same = w-same; word = w-word; turn = w-turn; unread = w-unread }
 
 -- one work, and the call is done
 data Alone (n₀ : ℕ) (x₀ : Transfer) : ℕ → ℕ → Transfer → Script → Type 0 where
@@ -336,19 +336,19 @@ module _ (work : Stage) (erases : Bool) (failure : Status) (bit a : ℕ) (bytes 
     lone-word d m y then alone = word
 
     lone-clean : (d m : ℕ) (y : Transfer) (then : Script) (w : Wire) → Alone n x d m y then
-        → Turns lone-job bytes [] no-values Lone (settled lone-job (record { stage = stage.Poll; done = d; chunk = m; sr = 0; cr = 0 })) w 0 then
+        → Turns lone-job bytes [] Lone (settled lone-job (record { stage = stage.Poll; done = d; chunk = m; sr = 0; cr = 0 })) w 0 then
     lone-clean d m y then w alone = over refl refl refl refl
 
-    pub working : Starts (start.going lone-job (start.placeAt stage.Enable n 0 0)) bytes log [] no-values (call.working bit failure x (ends Done []))
+    pub working : Starts (start.going lone-job (start.placeAt stage.Enable n 0 0)) bytes log [] (call.working bit failure x (ends Done []))
     working =
         begins lone-job bytes log Lone (working-scripted work erases false failure bit a bytes log (Alone n x) going polls lone-same lone-word lone-clean unread fails error) _ _ _ (settle-enable alone) refl refl refl refl
 
-pub erase-sector : (a : ℕ) (log : List ℕ) → Starts (start.eraseSector a (length log)) [] log [] no-values (call.eraseSector a)
+pub erase-sector : (a : ℕ) (log : List ℕ) → Starts (start.eraseSector a (length log)) [] log [] (call.eraseSector a)
 erase-sector a log =
-    either [] log (ltb 16777215 (a + 65536)) (λ e. ended-at-start _ [] log [] OutOfRange refl refl refl refl)
+    either [] log (ltb 16777215 (a + 65536)) (λ e. ended-at-start _ [] log [] OutOfRange refl (λ w. refl) refl refl refl)
     (λ e. either [] log (eqb (a % 65536) 0)
     (λ f. working stage.Erase true EraseErrorBitSet 5 a [] log 0 (call.erasing a) refl (λ d m r. refl) (same-short 0x1C _) (word-short (start.erasingJob a (length log)) (start.placeAt stage.Erase 0 0 0) [] 0x1C _ refl) refl refl (λ st. refl))
-    (λ f. ended-at-start _ [] log [] Alignment refl refl refl refl))
+    (λ f. ended-at-start _ [] log [] Alignment refl (λ w. refl) refl refl refl))
 
 -- the words of `program`'s transfer
 program-word : (a n : ℕ) (bytes log : List ℕ) → a + length bytes ≤ 16777215 → length bytes ≤ 240 → length bytes % 4 ≡ 0
@@ -365,20 +365,20 @@ program-same : (a : ℕ) (bytes log : List ℕ) → length bytes ≤ 240 → len
 program-same a bytes log few fours =
     record { port = refl; further = omega (arith, length-words bytes fours); bytes = omega arith; few = omega arith; twice = refl }
 
-pub program : (a : ℕ) (bytes log : List ℕ) → Starts (start.programOf a (length bytes) (length log)) bytes log [] no-values (call.program a bytes)
+pub program : (a : ℕ) (bytes log : List ℕ) → Starts (start.programOf a (length bytes) (length log)) bytes log [] (call.program a bytes)
 program a bytes log =
-    either bytes log (ltb 16777215 (a + length bytes)) (λ e. ended-at-start _ bytes log [] OutOfRange refl refl refl refl)
-    (λ e. either bytes log (ltb 240 (length bytes)) (λ f. ended-at-start _ bytes log [] DataTooLarge refl refl refl refl)
+    either bytes log (ltb 16777215 (a + length bytes)) (λ e. ended-at-start _ bytes log [] OutOfRange refl (λ w. refl) refl refl refl)
+    (λ e. either bytes log (ltb 240 (length bytes)) (λ f. ended-at-start _ bytes log [] DataTooLarge refl (λ w. refl) refl refl refl)
     (λ f. either bytes log (eqb (length bytes % 4) 0)
-    (λ g. either bytes log (ltb 256 (a % 256 + length bytes)) (λ h. ended-at-start _ bytes log [] CrossesPageBoundary refl refl refl refl)
+    (λ g. either bytes log (ltb 256 (a % 256 + length bytes)) (λ h. ended-at-start _ bytes log [] CrossesPageBoundary refl (λ w. refl) refl refl refl)
     (λ h. working stage.Program false ProgrammingErrorBitSet 6 a bytes log (length bytes) (call.programming a bytes) refl (λ d m r. refl)
     (program-same a bytes log (ltb-false 240 (length bytes) f) (eqb-true (length bytes % 4) 0 g))
     (program-word a (length bytes) bytes log (ltb-false 16777215 (a + length bytes) e) (ltb-false 240 (length bytes) f) (eqb-true (length bytes % 4) 0 g)) refl refl (λ st. refl)))
-    (λ g. ended-at-start _ bytes log [] NotAligned refl refl refl refl)))
+    (λ g. ended-at-start _ bytes log [] NotAligned refl (λ w. refl) refl refl refl)))
 
-pub new-call : (config : Config) (log : List ℕ) → Starts (start.newOf config (length log)) [] log [] no-values (call.newCall config)
+pub new-call : (config : Config) (log : List ℕ) → Starts (start.newOf config (length log)) [] log [] (call.newCall config)
 new-call config log = go (config .«latency_config»)
   where
-    go : (l : Latency) → Starts (start.newLatency l (config .«set_quad_bit_if_necessary») (config .«clear_write_protection») (length log)) [] log [] no-values (call.newLatency l (config .«set_quad_bit_if_necessary») (config .«clear_write_protection»))
+    go : (l : Latency) → Starts (start.newLatency l (config .«set_quad_bit_if_necessary») (config .«clear_write_protection») (length log)) [] log [] (call.newLatency l (config .«set_quad_bit_if_necessary») (config .«clear_write_protection»))
     go AsRead = new-with (config .«set_quad_bit_if_necessary») false 0 (config .«clear_write_protection») log
     go (Code c) = new-with (config .«set_quad_bit_if_necessary») true c (config .«clear_write_protection») log

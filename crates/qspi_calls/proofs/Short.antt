@@ -5,12 +5,14 @@ use mathlib.Core.List.{List, [], _∷_, _++_, reverse}
 use Prim.Native.Nat.{ℕ, zero, suc, _+_, _*_, _<_}
 use native.Mathlib.Omega.{arith}
 use lib.ListN.{length, getD}
-use Rattle.qspi_transfer.specs.declared.Phase.the-variants.{Disable}
+use Rattle.qspi_transfer.specs.declared.Phase.the-variants.{DrainStatus, Disable}
+use Rattle.qspi_transfer.specs.Wire.{freshWire}
 use Rattle.qspi_transfer.specs.declared.Wire.{Wire}
 use Rattle.qspi_script.specs.Stages.{oneWord, frameOf, firstWord, dueWord}
 use Rattle.qspi_script.specs.Turns.{turnOf, finish}
 use Rattle.qspi_script.specs.declared.Status.{Status}
-use Rattle.qspi_script.specs.declared.Status.the-variants.{Going, Done, RepliesEnded, LogFull}
+use Rattle.qspi_script.specs.declared.Status.the-variants.{Going}
+use Rattle.qspi_script.specs.Answer.{saidBy}
 use Rattle.qspi_script.specs.declared.Job.{Job}
 use Rattle.qspi_script.specs.declared.Place.{Place}
 use Rattle.qspi_script.specs.declared.Turned.{Turned}
@@ -18,14 +20,12 @@ use Rattle.qspi_operation.specs.declared.Op.{Op}
 use Rattle.qspi_operation.specs.Store.{isReading}
 use Rattle.qspi_operation.specs.Step.{isGoing, programmedAt}
 use Rattle.qspi_operation.proofs.Verdicts.{no}
-use Rattle.qspi_calls.specs.Machine.{Transfer, Script, ends, exchange, none, begin, State, ended, nothing, want, statusIn, valuesIn, countIn}
+use Rattle.qspi_operation.specs.Machine.{Transfer, Script, ends, exchange, none, begin, State, ended, nothing, want, statusIn, valuesIn, countIn}
 use Rattle.qspi_calls.specs.Calls.{short}
-use Rattle.qspi_calls.specs.Values.{isDone}
 use Rattle.qspi_calls.specs.Starts as start
-use Rattle.qspi_calls.proofs.Tied.{Tie}
+use Rattle.qspi_calls.proofs.Tied.{given, Tie, Starts}
 use Rattle.qspi_calls.proofs.Phases.{wire, words, Same, p-drain}
 use Rattle.qspi_calls.proofs.Scripted.{Turns, Scripted, Rel, rel-on, rel-over, script-tie}
-use Rattle.qspi_calls.proofs.Whole.{Starts}
 
 -- the replies of a transfer that takes one, or three
 pub of-one : (taken : List ℕ) (P : List ℕ → Type 0) → length taken ≡ 1 → ((r : ℕ) → P (r ∷ [])) → P taken
@@ -52,19 +52,10 @@ word-short job p bytes port word e (suc i) l = absurd (omega arith)
 pub data Only (p₀ : Place) (x₀ : Transfer) (k₀ : List ℕ → Script) : Place → Transfer → (List ℕ → Script) → Type 0 where
   only : Only p₀ x₀ k₀ p₀ x₀ k₀
 
--- the values that a call without any has
-abbrev pub no-values : Status → Wire → List ℕ
-no-values a w = []
-
--- values where the call is done
-abbrev pub whenDone : Status → List ℕ → List ℕ
-whenDone a vs = cond (isDone a) vs []
-
-module _ (job : Job) (p : Place) (buffer : List ℕ) (Values : Status → Wire → List ℕ) (x : Transfer) (k : List ℕ → Script) (same : Same (frameOf job p) x)
+module _ (job : Job) (p : Place) (buffer : List ℕ) (x : Transfer) (k : List ℕ → Script) (same : Same (frameOf job p) x)
     (word : (i : ℕ) → i < length (words x) → dueWord job p i [] ≡ getD (words x) i 0)
-    (turn : (c i b : ℕ) (taken : List ℕ) → length taken ≡ x .replies → Turns job [] buffer Values (Only p x k) (turnOf job p (getD taken 0 0)) (wire Disable c i b taken) (programmedAt job p) (k (reverse taken)))
-    (unread : isReading (p .stage) ≡ false)
-    (none-else : (w : Wire) → (Values RepliesEnded w ≡ []) × (Values LogFull w ≡ [])) where
+    (turn : (c i b : ℕ) (taken : List ℕ) → length taken ≡ x .replies → Turns job [] buffer (Only p x k) (turnOf job p (getD taken 0 0)) (wire Disable c i b taken) (programmedAt job p) (k (reverse taken)))
+    (unread : isReading (p .stage) ≡ false) where
   only-same : (q : Place) (y : Transfer) (z : List ℕ → Script) → Only p x k q y z → Same (frameOf job q) y
   only-same q y z only = same
 
@@ -72,21 +63,21 @@ module _ (job : Job) (p : Place) (buffer : List ℕ) (Values : Status → Wire �
   only-word q y z only = word
 
   only-turn : (q : Place) (y : Transfer) (z : List ℕ → Script) → Only p x k q y z → (c i b : ℕ) (taken : List ℕ) → length taken ≡ y .replies
-      → Turns job [] buffer Values (Only p x k) (turnOf job q (getD taken 0 0)) (wire Disable c i b taken) (programmedAt job q) (z (reverse taken))
+      → Turns job [] buffer (Only p x k) (turnOf job q (getD taken 0 0)) (wire Disable c i b taken) (programmedAt job q) (z (reverse taken))
   only-turn q y z only = turn
 
   only-unread : (q : Place) (y : Transfer) (z : List ℕ → Script) → Only p x k q y z → isReading (q .stage) ≡ false
   only-unread q y z only = unread
 
-  pub one-transfer : (log : List ℕ) → 0 ≡ programmedAt job p → 0 ≡ job .lent .«data» → length log ≡ job .lent .log → length buffer ≡ job .lent .buffer → Starts (start.going job p) [] log buffer Values (exchange x k)
+  pub one-transfer : (log : List ℕ) → 0 ≡ programmedAt job p → 0 ≡ job .lent .«data» → length log ≡ job .lent .log → length buffer ≡ job .lent .buffer → Starts (start.going job p) [] log buffer (exchange x k)
   one-transfer log n d l b = record {
     job = job;
     place = p;
     wire = _;
     status = Going;
     is = refl;
-    Rel = Rel job [] buffer Values (Only p x k);
-    tie = script-tie job [] buffer Values (Only p x k) (record { same = only-same; word = only-word; turn = only-turn; unread = only-unread; no-values = none-else });
+    Rel = Rel job [] buffer (Only p x k);
+    tie = script-tie job [] buffer (Only p x k) (record { same = only-same; word = only-word; turn = only-turn; unread = only-unread });
     rel = rel-on n only p-drain;
     lent-data = d;
     lent-log = l;
@@ -96,45 +87,44 @@ module _ (job : Job) (p : Place) (buffer : List ℕ) (Values : Status → Wire �
 
 -- ---- a call that has ended at its start
 
-data Over : Place → Wire → Status → State → Type 0 where
-  over-at : {p : Place} {w : Wire} {a : Status} → 0 ≡ p .done → isGoing a ≡ false → Over p w a (ended a [] [] 0)
+data Over (job : Job) : Place → Wire → Status → State → Type 0 where
+  over-at : {p : Place} {w : Wire} {a : Status} → 0 ≡ p .done → isGoing a ≡ false → saidBy a (given job w) ≡ saidBy a [] → Over job p w a (ended a [] [] 0)
 
-over-tie : (job : Job) (bytes buffer : List ℕ) → Tie job bytes buffer no-values Over
+over-tie : (job : Job) (bytes buffer : List ℕ) → Tie job bytes buffer (Over job)
 over-tie job bytes buffer = record {
   due = λ p w s q. absurd (not-going q);
   some = λ p w s q e. not-going q;
   steps = λ p w s v q. absurd (not-going q);
   over = λ p w a s q g. ended-over q;
-  values = λ p w a s q g. no-values-over q;
+  values = λ p w a s q g. nothing-given q;
   counts = λ p w a s q. nothing-programmed (job .script .paging) q;
-  no-values = λ w. (refl, refl);
   keeps = λ p w s v q. absurd (not-going q);
 }
   where
-    not-going : {p : Place} {w : Wire} {s : State} → Over p w Going s → ⊥
-    not-going (over-at e g) = no (sym g)
+    not-going : {p : Place} {w : Wire} {s : State} → Over job p w Going s → ⊥
+    not-going (over-at e g f) = no (sym g)
 
-    ended-over : {p : Place} {w : Wire} {a : Status} {s : State} → Over p w a s → (want s ≡ nothing) × (a ≡ statusIn s)
-    ended-over (over-at e g) = (refl, refl)
+    ended-over : {p : Place} {w : Wire} {a : Status} {s : State} → Over job p w a s → (want s ≡ nothing) × (a ≡ statusIn s)
+    ended-over (over-at e g f) = (refl, refl)
 
-    nothing-programmed : (b : Bool) {p : Place} {w : Wire} {a : Status} {s : State} → Over p w a s → countIn s ≡ cond b (p .done) 0
-    nothing-programmed true (over-at e g) = e
-    nothing-programmed false (over-at e g) = refl
+    nothing-programmed : (b : Bool) {p : Place} {w : Wire} {a : Status} {s : State} → Over job p w a s → countIn s ≡ cond b (p .done) 0
+    nothing-programmed true (over-at e g f) = e
+    nothing-programmed false (over-at e g f) = refl
 
-    no-values-over : {p : Place} {w : Wire} {a : Status} {s : State} → Over p w a s → valuesIn s ≡ []
-    no-values-over (over-at e g) = refl
+    nothing-given : {p : Place} {w : Wire} {a : Status} {s : State} → Over job p w a s → saidBy a (given job w) ≡ saidBy a (valuesIn s)
+    nothing-given (over-at e g f) = f
 
-pub ended-at-start : (job : Job) (bytes log buffer : List ℕ) (a : Status) → isGoing a ≡ false → length bytes ≡ job .lent .«data» → length log ≡ job .lent .log → length buffer ≡ job .lent .buffer
-    → Starts (start.over job a) bytes log buffer no-values (ends a [])
-ended-at-start job bytes log buffer a g d l b = record {
+pub ended-at-start : (job : Job) (bytes log buffer : List ℕ) (a : Status) → isGoing a ≡ false → ((w : Wire) → saidBy a (given job w) ≡ saidBy a []) → length bytes ≡ job .lent .«data» → length log ≡ job .lent .log
+    → length buffer ≡ job .lent .buffer → Starts (start.over job a) bytes log buffer (ends a [])
+ended-at-start job bytes log buffer a g f d l b = record {
   job = job;
   place = _;
   wire = _;
   status = a;
   is = refl;
-  Rel = Over;
+  Rel = Over job;
   tie = over-tie job bytes buffer;
-  rel = over-at refl g;
+  rel = over-at refl g (f (freshWire DrainStatus));
   lent-data = d;
   lent-log = l;
   lent-buffer = b;

@@ -9,7 +9,7 @@ use Rattle.zedboard_bsp.specs.Spansion.{commandByte}
 use Rattle.zedboard_bsp.specs.Words.{addressBytes, bytesOf}
 use Rattle.zedboard_bsp.specs.declared.qspi_spansion.RegisterId.the-variants as command
 use Rattle.zedboard_bsp.proofs.WireBytes.{read-back, command-bytes}
-use Rattle.qspi_calls.specs.Machine.{Transfer}
+use Rattle.qspi_operation.specs.Machine.{Transfer}
 use Rattle.qspi_calls.specs.Calls.{wordsOf, bytesOfAll, programming}
 
 abbrev pub AllBytes : List ℕ → Type 0

@@ -24,7 +24,7 @@ use Rattle.qspi_calls.specs.declared.start.Config.{Config}
 use Rattle.qspi_calls.specs.declared.start.Latency.{Latency}
 use Rattle.qspi_calls.specs.declared.start.Latency.the-variants.{AsRead, Code}
 use Rattle.qspi_calls.specs.Chunks.{Chunk, chunks}
-use Rattle.qspi_calls.specs.Machine.{write, modify, drain, Transfer, opening, Script, ends, perform, repeats, counts, none, exchange, onward}
+use Rattle.qspi_operation.specs.Machine.{write, modify, drain, Transfer, opening, Script, ends, perform, repeats, counts, none, exchange, onward}
 
 -- ---- transfers
 

@@ -1,7 +1,7 @@
-pub mod Machine
 pub mod Chunks
 pub mod Calls
 pub mod Starts
 pub mod Values
+pub mod Begins
 pub mod Prompt
 pub mod Promise

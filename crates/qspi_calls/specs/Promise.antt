@@ -1,15 +1,18 @@
 -- What a call hands back and leaves in the lent memory, out of its run over lists: document 01, "What the state can bring on": "the answer,
 -- the used counts and each lent word or byte afterwards", "Log words past the used ones don't change".
-use Prim.Native.Nat.{ℕ, _*_}
+use Prim.Native.Nat.{ℕ, _*_, _/_}
 use mathlib.Core.Path.{_≡_}
 use mathlib.Core.Bool.{cond}
-use mathlib.Core.List.{List, [], _++_}
-use lib.ListN.{length, getD, drop}
+use mathlib.Core.List.{List, [], _∷_, _++_}
+use lib.ListN.{length, drop}
 use Rattle.zynq7000.specs.Access.{encode}
+use Rattle.qspi_script.specs.declared.Gives.{Gives}
+use Rattle.qspi_script.specs.declared.Gives.the-variants as gives
 use Rattle.qspi_script.specs.declared.Status.{Status}
 use Rattle.qspi_operation.specs.declared.Stepped.{Stepped}
-use Rattle.qspi_operation.specs.Run.{Run}
-use Rattle.qspi_calls.specs.Machine.{Result, valuesIn, bytesIn, overlaid, readsOf}
+use Rattle.qspi_operation.specs.Machine.{Script, Result, called, bytesIn, overlaid, readsOf}
+use Rattle.qspi_operation.specs.Points.{answeredOf}
+use Rattle.qspi_operation.specs.Follows.{answerBy}
 use Rattle.qspi_calls.specs.Values.{isDone}
 use Rattle.qspi_calls.specs.declared.run.Ran.{Ran}
 
@@ -29,27 +32,26 @@ loggedOf r log = encode (r .log) ++ drop (2 * length (r .log)) log
 abbrev pub bufferedOf : Result → List ℕ → List ℕ
 bufferedOf r buffer = overlaid (bytesIn (r .state)) buffer
 
--- the same of the code: where it stands after a step, and at the end of a run by counters
+-- the same of the code, where it stands after a step or a run
 abbrev pub handed : Stepped → Ran
 handed s = record { answer = s .answer; used = s .op .used; replies = s .op .replies }
 
-abbrev pub ended : Run → Ran
-ended e = record { answer = e .answer; used = e .op .used; replies = e .op .replies }
-
--- a run of the code by counters, but for a buffer that is not lent: for the contract of `run::command`, which serves the crates above
-pub record Ended (s : Stepped) (log : List ℕ) (e : Run) : Type 0 where
-  pub op : s .op ≡ e .op
-  pub answer : s .answer ≡ e .answer
-  pub logged : log ≡ e .log
-
--- a value of the answer; 0 where the call is not done
-abbrev pub valueOf : Result → ℕ
-valueOf r = getD (valuesIn (r .state)) 0 0
-
--- the bytes of an id; zeros where the call is not done
-abbrev pub idOf : List ℕ → Result → List ℕ
-idOf zeros r = cond (isDone (r .answer)) (valuesIn (r .state)) zeros
+-- a whole call, from its start to its end: answer, log and buffer are those of the run of its script
+pub record Called (c : Script) (log buffer replies : List ℕ) (s : Stepped) (buffer₁ log₁ : List ℕ) : Type 0 where
+  pub answer : answerBy s ≡ answeredOf (called c (length log / 2) replies)
+  pub logged : log₁ ≡ loggedOf (called c (length log / 2) replies) log
+  pub stored : buffer₁ ≡ bufferedOf (called c (length log / 2) replies) buffer
 
 -- a reply where the call is done, else 0
 abbrev pub keptOf : Status → ℕ → ℕ
 keptOf a reply = cond (isDone a) reply 0
+
+-- what a call gives where it is done, else nothing
+abbrev pub givenOf : Status → Gives → Gives
+givenOf a given = cond (isDone a) given gives.Nothing
+
+-- the value of an answer that has one, and 0 of any other
+abbrev pub oneOf : List ℕ → ℕ
+oneOf [] = 0
+oneOf (v ∷ []) = v
+oneOf (v ∷ w ∷ vs) = 0

@@ -8,7 +8,7 @@ use Rattle.zynq7000.specs.declared.qspi.Access.{Access}
 use Rattle.zynq7000.specs.declared.qspi.Access.the-variants.{Read, Write}
 use Rattle.qspi_transfer.specs.LowLevel.{chipSelectHigh, chipSelectLow, started}
 use Rattle.qspi_transfer.specs.Wire.{waits}
-use Rattle.qspi_calls.specs.Machine.{Transfer}
+use Rattle.qspi_operation.specs.Machine.{Transfer}
 
 -- what the controller answers in one transfer beside the replies: status without and with a word waiting, and config at opening, start and
 -- closing; all other bits are free
@@ -38,9 +38,3 @@ abbrev pub promptly : Transfer → Prompt → List ℕ → List Access
 promptly x a rs =
     Read 0x04 (a .idle) ∷ Read 0x00 (a .opens) ∷ Write 0x00 (chipSelectLow (a .opens)) ∷ Write 0x14 1
     ∷ map (Write (x .port)) (x .command ∷ x .further) ++ replying x a rs
-
--- the replies that a log used
-abbrev pub repliesOf : List Access → List ℕ
-repliesOf [] = []
-repliesOf (Read o v ∷ l) = v ∷ repliesOf l
-repliesOf (Write o v ∷ l) = repliesOf l

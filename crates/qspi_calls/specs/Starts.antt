@@ -5,6 +5,7 @@ use Prim.Native.Nat.{ℕ, _+_, _%_}
 use mathlib.Core.Bool.{Bool, true, false}
 use lib.Dec.{ltb, eqb}
 use Rattle.zynq7000.specs.Qspi.{linearWord, configWord}
+use Rattle.zynq7000.specs.Slcr.{sourceCode, clockControlWord}
 use Rattle.zynq7000_hal.specs.Clocks.{baudOf}
 use Rattle.zynq7000_hal.specs.Initialize.{initialConfig}
 use Rattle.zynq7000_hal.specs.Presets.{ioModeConfig}
@@ -22,6 +23,8 @@ use Rattle.qspi_script.specs.declared.Status.{Status}
 use Rattle.qspi_script.specs.declared.Status.the-variants as status
 use Rattle.qspi_script.specs.declared.Purpose.{Purpose}
 use Rattle.qspi_script.specs.declared.Purpose.the-variants as purpose
+use Rattle.qspi_script.specs.declared.Gives.{Gives}
+use Rattle.qspi_script.specs.declared.Gives.the-variants as gives
 use Rattle.qspi_script.specs.declared.Script.{Script}
 use Rattle.qspi_script.specs.declared.Lent.{Lent}
 use Rattle.qspi_script.specs.declared.Wanted.{Wanted}
@@ -37,12 +40,12 @@ use Rattle.qspi_calls.specs.declared.start.Latency.the-variants.{AsRead,
 
 -- ---- a call as it was asked for
 
-abbrev pub then : Stage → Stage → Status → Bool → Bool → Purpose → Script
-then enable clear disable erases pages for =
-    record { «after_enable» = enable; «after_clear» = clear; «after_disable» = disable; erasing = erases; paging = pages; purpose = for }
+abbrev pub then : Stage → Stage → Status → Bool → Bool → Purpose → Gives → Script
+then enable clear disable erases pages for given =
+    record { «after_enable» = enable; «after_clear» = clear; «after_disable» = disable; erasing = erases; paging = pages; purpose = for; gives = given }
 
-abbrev pub plain : Script
-plain = then stage.End stage.End status.Done false false purpose.Answer
+abbrev pub plain : Gives → Script
+plain given = then stage.End stage.End status.Done false false purpose.Answer given
 
 abbrev pub notReading : Reading
 notReading = record { fast = false; dummy = false }
@@ -64,18 +67,18 @@ commandJob s log = jobOf (lent 0 0 log) s 0
 
 abbrev pub updatingJob : Stage → Purpose → Wanted → ℕ → Job
 updatingJob cleared for w log =
-    record { lent = lent 0 0 log; script = then stage.WriteRegisters cleared status.Done false false for; addr = 0; reading = notReading; wanted = w; «low_level» = noRegisters }
+    record { lent = lent 0 0 log; script = then stage.WriteRegisters cleared status.Done false false for gives.Nothing; addr = 0; reading = notReading; wanted = w; «low_level» = noRegisters }
 
 abbrev pub workingJob : Stage → Bool → Bool → Status → ℕ → ℕ → ℕ → Job
-workingJob work erases pages failure a n log = jobOf (lent n 0 log) (then work stage.Disable failure erases pages purpose.Answer) a
+workingJob work erases pages failure a n log = jobOf (lent n 0 log) (then work stage.Disable failure erases pages purpose.Answer gives.Nothing) a
 
 abbrev pub readingJob : ℕ → Bool → Bool → ℕ → ℕ → Job
 readingJob a fast dummy n log =
-    record { lent = lent 0 n log; script = plain; addr = a; reading = record { fast = fast; dummy = dummy }; wanted = nothingWanted; «low_level» = noRegisters }
+    record { lent = lent 0 n log; script = plain gives.Nothing; addr = a; reading = record { fast = fast; dummy = dummy }; wanted = nothingWanted; «low_level» = noRegisters }
 
-abbrev pub registersJob : Sequence → ℕ → ℕ → Job
-registersJob s w log =
-    record { lent = lent 0 0 log; script = plain; addr = 0; reading = notReading; wanted = nothingWanted; «low_level» = record { sequence = s; word = w } }
+abbrev pub registersJob : Sequence → ℕ → Gives → ℕ → Job
+registersJob s w given log =
+    record { lent = lent 0 0 log; script = plain given; addr = 0; reading = notReading; wanted = nothingWanted; «low_level» = record { sequence = s; word = w } }
 
 -- ---- where it begins
 
@@ -92,11 +95,11 @@ abbrev pub pick : Bool → Op → Op → Op
 pick true a b = a
 pick false a b = b
 
-abbrev pub oneTransfer : Stage → ℕ → Op
-oneTransfer s log = going (commandJob plain log) (placeAt s 0 0 0)
+abbrev pub oneTransfer : Stage → Gives → ℕ → Op
+oneTransfer s given log = going (commandJob (plain given) log) (placeAt s 0 0 0)
 
 abbrev pub enabled : Stage → Script
-enabled s = then s stage.End status.Done false false purpose.Answer
+enabled s = then s stage.End status.Done false false purpose.Answer gives.Nothing
 
 abbrev pub enabledThen : Stage → ℕ → ℕ → ℕ → Op
 enabledThen s sr cr log = going (commandJob (enabled s) log) (placeAt stage.Enable 0 sr cr)
@@ -174,9 +177,9 @@ readOf a fast dummy n log =
 
 -- ---- calls that send nothing
 
-abbrev pub registersOf : Sequence → ℕ → ℕ → Op
-registersOf s w log =
-    record { job = registersJob s w log; place = placeAt stage.Registers 0 0 0; wire = freshWire phase.Registers; used = 0; replies = 0; status = status.Going }
+abbrev pub registersOf : Sequence → ℕ → Gives → ℕ → Op
+registersOf s w given log =
+    record { job = registersJob s w given log; place = placeAt stage.Registers 0 0 0; wire = freshWire phase.Registers; used = 0; replies = 0; status = status.Going }
 
 abbrev pub initializing : BaudRateConfig → Sequence
 initializing WithLoopback = sequence.InitializeWithLoopback
@@ -184,8 +187,10 @@ initializing (WithoutLoopback d) = sequence.Initialize
 
 abbrev pub initializeOf : ClockConfig → Bool → Bool → ℕ → Op
 initializeOf c phase₁ polarity log =
-    pick (ltb 63 (c .«ref_clk_div»)) (over (registersJob sequence.Initialize 0 log) status.FieldTooWide)
-    (registersOf (initializing (c .«baud_rate_config»)) (configWord (initialConfig (baudOf (c .«baud_rate_config»)) phase₁ polarity)) log)
+    pick (ltb 63 (c .«ref_clk_div»)) (over (registersJob sequence.Initialize 0 gives.Nothing log) status.FieldTooWide)
+    (registersOf (initializing (c .«baud_rate_config»)) (configWord (initialConfig (baudOf (c .«baud_rate_config»)) phase₁ polarity))
+    (gives.Clock (clockControlWord (c .«ref_clk_div») (sourceCode (c .«src_sel»)) 1))
+    log)
 
 abbrev pub enableIoMode : Bool → ℕ → Op
-enableIoMode dual log = registersOf sequence.EnableIoMode (linearWord (ioModeConfig dual)) log
+enableIoMode dual log = registersOf sequence.EnableIoMode (linearWord (ioModeConfig dual)) gives.Nothing log

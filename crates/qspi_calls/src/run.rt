@@ -1,11 +1,14 @@
 // A call from its start to its end: its run where only replies and a log are lent, and what it hands back.
 ghost use mathlib.Core.Path.{_≡_};
-ghost use Rattle.qspi_operation.specs.Run.{runOf};
+ghost use Rattle.qspi_script.specs.Answer.{valuesIn};
+ghost use Rattle.qspi_operation.specs.Follows.{RunFollows, answerBy};
 ghost use Rattle.qspi_calls.specs.Values as values;
-ghost use Rattle.qspi_calls.specs.Promise.{nothing, Ended, handed, keptOf};
+ghost use Rattle.qspi_calls.specs.Promise.{nothing, handed, keptOf, givenOf, oneOf};
 use qspi_operation::Op;
 use qspi_operation::Stepped;
+use qspi_script::Gives;
 use qspi_script::Status;
+use zedboard_bsp::qspi_spansion::words;
 
 // How a call ended, and the used counts: log words and replies.
 pub struct Ran {
@@ -44,9 +47,41 @@ pub fn kept(answer: Status, reply: u32) -> u32
     if is_done(answer) { reply } else { 0 }
 }
 
+// What a call gives, where it is done.
+pub fn given(answer: Status, gives: Gives) -> Gives
+    ensures given { λ r. ⌜ r ≡ givenOf answer gives ⌝ }
+{
+    if is_done(answer) {
+        gives
+    } else {
+        Gives::Nothing
+    }
+}
+
+// The one value that a call gives once it is done: a register's byte or the SLCR clock word. 0 where it is
+// not done, and where it gives nothing or an id.
+pub fn value(s: Stepped) -> u32
+    ensures value { λ r. ⌜ r ≡ oneOf (valuesIn (answerBy s .says)) ⌝ }
+{
+    let op = s.op;
+    let job = op.job;
+    let script = job.script;
+    let gives = script.gives;
+    let wire = op.wire;
+    let answer = s.answer;
+    match given(answer, gives) {
+        Gives::Nothing => 0,
+        Gives::Register => words::top_byte(wire.last) as u32,
+        Gives::Id => 0,
+        Gives::LongId => 0,
+        Gives::Clock(word) => word,
+    }
+}
+
 // A run of a call that is lent only replies and a log.
 pub fn command(op: Op, replies: &[u32], log: &mut [u32]) -> Stepped
-    ensures ran { λ r. ⌜ Ended r (now (log .exit)) (runOf op nothing (now (replies .entry)) nothing (now (log .entry))) ⌝ }
+    ensures follows { λ r. ⌜ RunFollows op nothing nothing (now (log .entry)) (now (replies .entry)) r nothing (now (log .exit)) ⌝ }
+    ensures job { λ r. ⌜ r .op .job ≡ op .job ⌝ }
 {
     let data = [0u8; 0];
     let mut buffer = [0u8; 0];

@@ -6,9 +6,13 @@ ghost use Prim.Native.Nat.{_+_};
 ghost use mathlib.Core.Bool.{true, false};
 ghost use lib.Dec.{ltb};
 ghost use Rattle.qspi_calls.specs.Starts as spec;
+ghost use Rattle.qspi_calls.specs.Calls as call;
+ghost use Rattle.qspi_calls.specs.Begins.{Begins, BeginsWith, BeginsInto};
 ghost use Rattle.qspi_transfer.specs.declared.low_level.Sequence.the-variants as sequence;
 ghost use Rattle.qspi_script.specs.declared.Stage.the-variants as stage;
+ghost use Rattle.qspi_script.specs.declared.Gives.the-variants as gives;
 use qspi_operation::Op;
+use qspi_script::Gives;
 use qspi_script::Job;
 use qspi_script::Lent;
 use qspi_script::LowLevel;
@@ -38,16 +42,6 @@ pub struct Config {
     pub clear_write_protection: bool,
 }
 
-// A script of one transfer.
-const PLAIN: Script = Script {
-    after_enable: Stage::End,
-    after_clear: Stage::End,
-    after_disable: Status::Done,
-    erasing: false,
-    paging: false,
-    purpose: Purpose::Answer,
-};
-
 const NOT_READING: Reading = Reading {
     fast: false,
     dummy: false,
@@ -65,6 +59,21 @@ const NO_REGISTERS: LowLevel = LowLevel {
     sequence: Sequence::Disable,
     word: 0,
 };
+
+// A script of one transfer, or of register accesses, and what the call gives.
+fn plain(gives: Gives) -> Script
+    ensures script { λ r. ⌜ r ≡ spec.plain gives ⌝ }
+{
+    Script {
+        after_enable: Stage::End,
+        after_clear: Stage::End,
+        after_disable: Status::Done,
+        erasing: false,
+        paging: false,
+        purpose: Purpose::Answer,
+        gives,
+    }
+}
 
 // A call that is lent only a log.
 fn command(script: Script, log: usize) -> Job
@@ -128,52 +137,59 @@ fn over(job: Job, status: Status) -> Op
     }
 }
 
-fn one_transfer(stage: Stage, log: usize) -> Op
-    ensures start { λ r. ⌜ r ≡ spec.oneTransfer stage log ⌝ }
+fn one_transfer(stage: Stage, gives: Gives, log: usize) -> Op
+    ensures start { λ r. ⌜ r ≡ spec.oneTransfer stage gives log ⌝ }
 {
-    going(command(PLAIN, log), place(stage, 0, 0, 0))
+    going(command(plain(gives), log), place(stage, 0, 0, 0))
 }
 
 pub fn write_enable(log: usize) -> Op
-    ensures start { λ r. ⌜ r ≡ spec.oneTransfer stage.Enable log ⌝ }
+    ensures start { λ r. ⌜ r ≡ spec.oneTransfer stage.Enable gives.Nothing log ⌝ }
+    ensures begins { λ r. ⌜ Begins log call.writeEnable r ⌝ }
 {
-    one_transfer(Stage::Enable, log)
+    one_transfer(Stage::Enable, Gives::Nothing, log)
 }
 
 pub fn write_disable(log: usize) -> Op
-    ensures start { λ r. ⌜ r ≡ spec.oneTransfer stage.Disable log ⌝ }
+    ensures start { λ r. ⌜ r ≡ spec.oneTransfer stage.Disable gives.Nothing log ⌝ }
+    ensures begins { λ r. ⌜ Begins log call.writeDisable r ⌝ }
 {
-    one_transfer(Stage::Disable, log)
+    one_transfer(Stage::Disable, Gives::Nothing, log)
 }
 
 pub fn clear_status(log: usize) -> Op
-    ensures start { λ r. ⌜ r ≡ spec.oneTransfer stage.Clear log ⌝ }
+    ensures start { λ r. ⌜ r ≡ spec.oneTransfer stage.Clear gives.Nothing log ⌝ }
+    ensures begins { λ r. ⌜ Begins log call.clearStatus r ⌝ }
 {
-    one_transfer(Stage::Clear, log)
+    one_transfer(Stage::Clear, Gives::Nothing, log)
 }
 
 pub fn read_status_register_1(log: usize) -> Op
-    ensures start { λ r. ⌜ r ≡ spec.oneTransfer stage.ReadStatus log ⌝ }
+    ensures start { λ r. ⌜ r ≡ spec.oneTransfer stage.ReadStatus gives.Register log ⌝ }
+    ensures begins { λ r. ⌜ Begins log call.readStatus r ⌝ }
 {
-    one_transfer(Stage::ReadStatus, log)
+    one_transfer(Stage::ReadStatus, Gives::Register, log)
 }
 
 pub fn read_configuration_register(log: usize) -> Op
-    ensures start { λ r. ⌜ r ≡ spec.oneTransfer stage.ReadConfig log ⌝ }
+    ensures start { λ r. ⌜ r ≡ spec.oneTransfer stage.ReadConfig gives.Register log ⌝ }
+    ensures begins { λ r. ⌜ Begins log call.readConfig r ⌝ }
 {
-    one_transfer(Stage::ReadConfig, log)
+    one_transfer(Stage::ReadConfig, Gives::Register, log)
 }
 
 pub fn read_rdid_base(log: usize) -> Op
-    ensures start { λ r. ⌜ r ≡ spec.oneTransfer stage.ReadId log ⌝ }
+    ensures start { λ r. ⌜ r ≡ spec.oneTransfer stage.ReadId gives.Id log ⌝ }
+    ensures begins { λ r. ⌜ Begins log call.readId r ⌝ }
 {
-    one_transfer(Stage::ReadId, log)
+    one_transfer(Stage::ReadId, Gives::Id, log)
 }
 
 pub fn read_rdid_extended(log: usize) -> Op
-    ensures start { λ r. ⌜ r ≡ spec.oneTransfer stage.ReadLongId log ⌝ }
+    ensures start { λ r. ⌜ r ≡ spec.oneTransfer stage.ReadLongId gives.LongId log ⌝ }
+    ensures begins { λ r. ⌜ Begins log call.readLongId r ⌝ }
 {
-    one_transfer(Stage::ReadLongId, log)
+    one_transfer(Stage::ReadLongId, Gives::LongId, log)
 }
 
 fn enabled(stage: Stage) -> Script
@@ -186,11 +202,13 @@ fn enabled(stage: Stage) -> Script
         erasing: false,
         paging: false,
         purpose: Purpose::Answer,
+        gives: Gives::Nothing,
     }
 }
 
 pub fn write_status(sr: u8, log: usize) -> Op
     ensures start { λ r. ⌜ r ≡ spec.enabledThen stage.WriteStatus sr 0 log ⌝ }
+    ensures begins { λ r. ⌜ Begins log (call.writeStatus sr) r ⌝ }
 {
     going(
         command(enabled(Stage::WriteStatus), log),
@@ -200,6 +218,7 @@ pub fn write_status(sr: u8, log: usize) -> Op
 
 pub fn write_status_and_config_register(sr: u8, cr: u8, log: usize) -> Op
     ensures start { λ r. ⌜ r ≡ spec.enabledThen stage.WriteRegisters sr cr log ⌝ }
+    ensures begins { λ r. ⌜ Begins log (call.writeRegisters sr cr) r ⌝ }
 {
     going(
         command(enabled(Stage::WriteRegisters), log),
@@ -223,6 +242,7 @@ fn updating(after_clear: Stage, purpose: Purpose, wanted: Wanted, log: usize) ->
         erasing: false,
         paging: false,
         purpose,
+        gives: Gives::Nothing,
     };
     Job {
         lent,
@@ -275,6 +295,7 @@ fn configuring(quad: bool, set_latency: bool, latency: u8, clear: bool, log: usi
 
 pub fn new(config: Config, log: usize) -> Op
     ensures start { λ r. ⌜ r ≡ spec.newOf config log ⌝ }
+    ensures begins { λ r. ⌜ Begins log (call.newCall config) r ⌝ }
 {
     let quad = config.set_quad_bit_if_necessary;
     let clear = config.clear_write_protection;
@@ -287,6 +308,7 @@ pub fn new(config: Config, log: usize) -> Op
 
 pub fn set_write_protection(protection: u8, log: usize) -> Op
     ensures start { λ r. ⌜ r ≡ spec.setWriteProtection protection log ⌝ }
+    ensures begins { λ r. ⌜ Begins log (call.setWriteProtection protection) r ⌝ }
 {
     let wanted = Wanted {
         quad: false,
@@ -327,6 +349,7 @@ fn working(
         erasing,
         paging,
         purpose: Purpose::Answer,
+        gives: Gives::Nothing,
     };
     Job {
         lent,
@@ -354,6 +377,7 @@ fn out_of_range(addr: u32, length: usize) -> bool
 
 pub fn erase_sector(addr: u32, log: usize) -> Op
     ensures start { λ r. ⌜ r ≡ spec.eraseSector addr log ⌝ }
+    ensures begins { λ r. ⌜ Begins log (call.eraseSector addr) r ⌝ }
 {
     let job = working(
         Stage::Erase,
@@ -390,6 +414,7 @@ fn programming(paging: bool, addr: u32, data: usize, log: usize) -> Job
 
 pub fn program(addr: u32, data: usize, log: usize) -> Op
     ensures start { λ r. ⌜ r ≡ spec.programOf addr «data» log ⌝ }
+    ensures begins { λ r. ⌜ BeginsWith «data» log (call.program addr) r ⌝ }
 {
     let job = programming(false, addr, data, log);
     if out_of_range(addr, data) {
@@ -427,6 +452,7 @@ fn opened(job: Job, turned: Turned) -> Op
 // 1 on the whole length, before any chunk; then each chunk when its turn comes.
 pub fn write_pages(addr: u32, data: usize, log: usize) -> Op
     ensures start { λ r. ⌜ r ≡ spec.writePagesOf addr «data» log ⌝ }
+    ensures begins { λ r. ⌜ BeginsWith «data» log (call.writePages addr) r ⌝ }
 {
     let job = programming(true, addr, data, log);
     if out_of_range(addr, data) {
@@ -459,9 +485,10 @@ fn read(addr: u32, fast: bool, dummy: bool, buffer: usize, log: usize) -> Op
         log,
     };
     let reading = Reading { fast, dummy };
+    let script = plain(Gives::Nothing);
     let job = Job {
         lent,
-        script: PLAIN,
+        script,
         addr,
         reading,
         wanted: NOTHING_WANTED,
@@ -479,19 +506,21 @@ fn read(addr: u32, fast: bool, dummy: bool, buffer: usize, log: usize) -> Op
 
 pub fn read_page_read(addr: u32, buffer: usize, log: usize) -> Op
     ensures start { λ r. ⌜ r ≡ spec.readOf addr false false buffer log ⌝ }
+    ensures begins { λ r. ⌜ BeginsInto buffer log (call.read false false addr buffer) r ⌝ }
 {
     read(addr, false, false, buffer, log)
 }
 
 pub fn read_fast_read(addr: u32, dummy_byte: bool, buffer: usize, log: usize) -> Op
     ensures start { λ r. ⌜ r ≡ spec.readOf addr true «dummy_byte» buffer log ⌝ }
+    ensures begins { λ r. ⌜ BeginsInto buffer log (call.read true «dummy_byte» addr buffer) r ⌝ }
 {
     read(addr, true, dummy_byte, buffer, log)
 }
 
 // A call that sends nothing.
-fn registers_job(sequence: Sequence, word: u32, log: usize) -> Job
-    ensures job { λ r. ⌜ r ≡ spec.registersJob sequence word log ⌝ }
+fn registers_job(sequence: Sequence, word: u32, gives: Gives, log: usize) -> Job
+    ensures job { λ r. ⌜ r ≡ spec.registersJob sequence word gives log ⌝ }
 {
     let lent = Lent {
         data: 0,
@@ -499,9 +528,10 @@ fn registers_job(sequence: Sequence, word: u32, log: usize) -> Job
         log,
     };
     let low_level = LowLevel { sequence, word };
+    let script = plain(gives);
     Job {
         lent,
-        script: PLAIN,
+        script,
         addr: 0,
         reading: NOT_READING,
         wanted: NOTHING_WANTED,
@@ -509,10 +539,10 @@ fn registers_job(sequence: Sequence, word: u32, log: usize) -> Job
     }
 }
 
-fn registers(sequence: Sequence, word: u32, log: usize) -> Op
-    ensures start { λ r. ⌜ r ≡ spec.registersOf sequence word log ⌝ }
+fn registers(sequence: Sequence, word: u32, gives: Gives, log: usize) -> Op
+    ensures start { λ r. ⌜ r ≡ spec.registersOf sequence word gives log ⌝ }
 {
-    let job = registers_job(sequence, word, log);
+    let job = registers_job(sequence, word, gives, log);
     let wire = qspi_transfer::begin(Phase::Registers);
     let at = place(Stage::Registers, 0, 0, 0);
     Op {
@@ -537,33 +567,45 @@ fn sequence_of(config: BaudRateConfig) -> Sequence
 
 pub fn initialize(clock_config: ClockConfig, phase: bool, polarity: bool, log: usize) -> Op
     ensures start { λ r. ⌜ r ≡ spec.initializeOf «clock_config» phase polarity log ⌝ }
+    ensures begins { λ r. ⌜ Begins log (call.initialize «clock_config» phase polarity) r ⌝ }
 {
     let baud_rate_config = clock_config.baud_rate_config;
     let sequence = sequence_of(baud_rate_config);
     match zynq7000_hal::qspi::initialize_words(clock_config, phase, polarity) {
-        Initialization::Words(words) => registers(sequence, words.config, log),
+        Initialization::Words(words) => {
+            let gives = Gives::Clock(words.lqspi_clk_ctrl);
+            registers(sequence, words.config, gives, log)
+        }
         Initialization::FieldTooWide => over(
-            registers_job(Sequence::Initialize, 0, log),
+            registers_job(Sequence::Initialize, 0, Gives::Nothing, log),
             Status::FieldTooWide,
         ),
     }
 }
 
 pub fn enable_linear_addressing(config: u32, log: usize) -> Op
-    ensures start { λ r. ⌜ r ≡ spec.registersOf sequence.EnableLinearAddressing config log ⌝ }
+    ensures start { λ r. ⌜ r ≡ spec.registersOf sequence.EnableLinearAddressing config gives.Nothing log ⌝ }
+    ensures begins { λ r. ⌜ Begins log (call.enableLinearAddressing config) r ⌝ }
 {
-    registers(Sequence::EnableLinearAddressing, config, log)
+    registers(
+        Sequence::EnableLinearAddressing,
+        config,
+        Gives::Nothing,
+        log,
+    )
 }
 
 pub fn enable_io_mode(dual_flash: bool, log: usize) -> Op
     ensures start { λ r. ⌜ r ≡ spec.enableIoMode «dual_flash» log ⌝ }
+    ensures begins { λ r. ⌜ Begins log (call.enableIoMode «dual_flash») r ⌝ }
 {
     let config = zynq7000_hal::qspi::io_mode_config(dual_flash);
-    registers(Sequence::EnableIoMode, config.0, log)
+    registers(Sequence::EnableIoMode, config.0, Gives::Nothing, log)
 }
 
 pub fn disable(log: usize) -> Op
-    ensures start { λ r. ⌜ r ≡ spec.registersOf sequence.Disable 0 log ⌝ }
+    ensures start { λ r. ⌜ r ≡ spec.registersOf sequence.Disable 0 gives.Nothing log ⌝ }
+    ensures begins { λ r. ⌜ Begins log call.disable r ⌝ }
 {
-    registers(Sequence::Disable, 0, log)
+    registers(Sequence::Disable, 0, Gives::Nothing, log)
 }

@@ -1,3 +1,4 @@
+pub mod Promised
 pub mod Types
 pub mod ThinStart
 pub mod ThinStep

@@ -1,5 +1,5 @@
 -- A save through the driver is the run of `write_pages`, so it promises what that run promises. Assumes nothing.
-use Prim.Native.Nat.{ℕ, _^_, _<_}
+use Prim.Native.Nat.{ℕ, _<_}
 use mathlib.Core.Path.{_≡_, refl, ap, _∙_}
 use mathlib.Core.Bool.{Bool, true, false}
 use mathlib.Core.List.{List, []}
@@ -7,16 +7,19 @@ use lib.ListN.{length, getD}
 use Rattle.qspi_operation.specs.declared.Op.{Op}
 use Rattle.qspi_operation.specs.declared.Stepped.{Stepped}
 use Rattle.qspi_operation.specs.Step.{isGoing}
+use Rattle.qspi_operation.specs.Run as by-counters
 use Rattle.qspi_operation.specs.Run.{Run, runOf}
+use Rattle.qspi_operation.proofs.Following.{on-run}
+use Rattle.qspi_calls.specs.Begins.{BeginsWith}
+use Rattle.qspi_calls.specs.Calls.{writePages}
 use Rattle.qspi_calls.specs.Starts.{writePagesOf}
-use Rattle.qspi_calls.specs.Promise.{Ended}
 use Rattle.power_cut.proofs.Promised.{promised, saved}
 use Rattle.qspi_driver.specs.declared.Driven.{Driven}
 use Rattle.qspi_driver.specs.Driver.{Driver, Drive, drivenIf, drivenOf}
 use Rattle.qspi_driver.specs.Saved.{Saves, Untouched}
 
-module _ (a : ℕ) (bytes rs log : List ℕ) (d : Driver) {o : Op} (started : o ≡ writePagesOf a (length bytes) (length log)) {r : Driven} {log₁ : List ℕ} (driver-is : r .driver ≡ drivenOf d o bytes rs [] log .driver) (answer-is : r .answer ≡ drivenOf d o bytes rs [] log .answer)
-    (log-is : log₁ ≡ drivenOf d o bytes rs [] log .log) where
+module _ (a : ℕ) (bytes rs log : List ℕ) (d : Driver) {o : Op} (started : (o ≡ writePagesOf a (length bytes) (length log)) × BeginsWith (length bytes) (length log) (writePages a) o) {r : Driven} {buffer₁ log₁ : List ℕ}
+    (driver-is : r .driver ≡ drivenOf d o bytes rs [] log .driver) (answer-is : r .answer ≡ drivenOf d o bytes rs [] log .answer) (buffer-is : buffer₁ ≡ drivenOf d o bytes rs [] log .buffer) (log-is : log₁ ≡ drivenOf d o bytes rs [] log .log) where
   abbrev run : Run
   run = runOf o bytes rs [] log
 
@@ -24,13 +27,14 @@ module _ (a : ℕ) (bytes rs log : List ℕ) (d : Driver) {o : Op} (started : o 
   decided : {b : Bool} → isGoing (d .state .op .status) ≡ b → drivenOf d o bytes rs [] log ≡ drivenIf b d run [] log
   decided g = ap (λ (b : Bool). drivenIf b d run [] log) g
 
-  pub saves : length rs < 2 ^ 64 → ((i : ℕ) → getD bytes i 0 < 256) → isGoing (d .state .op .status) ≡ false → Saves a bytes rs log r log₁
-  saves fits octets g =
+  pub saves : ((i : ℕ) → getD bytes i 0 < 256) → isGoing (d .state .op .status) ≡ false → Saves a bytes rs log r log₁
+  saves octets g =
       let at = decided g in
       let s : Stepped = record { op = r .driver .state .op; answer = run .answer } in
-      let h : Ended s log₁ run = record { op = ap (λ (x : Driver). x .state .op) (driver-is ∙ ap (λ (x : Drive). x .driver) at); answer = refl; logged = log-is ∙ ap (λ (x : Drive). x .log) at } in
-      let p = promised a bytes rs log fits started h refl refl in
-      record { status = run .answer; given = answer-is ∙ ap (λ (x : Drive). x .answer) at; ran = p .ran; counted = p .counted; logged = p .logged; cut = saved a bytes rs log octets p }
+      let h : by-counters.Ran s buffer₁ log₁ run =
+      record { op = ap (λ (x : Driver). x .state .op) (driver-is ∙ ap (λ (x : Drive). x .driver) at); answer = refl; stored = buffer-is ∙ ap (λ (x : Drive). x .buffer) at; logged = log-is ∙ ap (λ (x : Drive). x .log) at } in
+      let p = promised a bytes rs log started (h, on-run o bytes [] log rs h) refl refl in
+      record { status = run .answer; given = answer-is ∙ ap (λ (x : Drive). x .answer) at; answer = p .answer; logged = p .logged; cut = saved a bytes rs log octets p }
 
   pub untouched : isGoing (d .state .op .status) ≡ true → Untouched d log r log₁
   untouched g =

@@ -1,3 +1,4 @@
 pub mod State
 pub mod Driver
+pub mod Promise
 pub mod Saved

@@ -2,28 +2,27 @@
 -- `&mut self` as one small driver state lent to each step and updated". Each method is the step, the start or the query by value.
 use Prim.Native.Nat.{ℕ}
 use mathlib.Core.Bool.{Bool, true, false}
-use mathlib.Core.List.{List}
-use Rattle.qspi_script.specs.Stages.{numberOf}
+use mathlib.Core.List.{List, []}
+use Rattle.qspi_script.specs.Answer.{Answered, saidBy, valuesOf}
+use Rattle.qspi_script.specs.Answer as said
+use Rattle.qspi_script.specs.declared.Number.{Number}
+use Rattle.qspi_script.specs.declared.Number.the-variants.{Without}
+use Rattle.qspi_script.specs.declared.Gives.{Gives}
+use Rattle.qspi_script.specs.declared.Gives.the-variants as gives
 use Rattle.qspi_operation.specs.declared.Op.{Op}
 use Rattle.qspi_operation.specs.declared.Reply.{Reply}
 use Rattle.qspi_operation.specs.declared.Stepped.{Stepped}
 use Rattle.qspi_operation.specs.Step.{isGoing, stepOf, programmedOf}
-use Rattle.qspi_calls.specs.Promise.{keptOf}
+use Rattle.qspi_calls.specs.Promise.{keptOf, givenOf}
 use Rattle.qspi_driver.specs.declared.state.State.{State}
 use Rattle.qspi_driver.specs.declared.state.Answer.{Answer}
 use Rattle.qspi_driver.specs.declared.state.Answer.the-variants.{Given, Busy}
-use Rattle.qspi_driver.specs.declared.state.Number.{Number}
-use Rattle.qspi_driver.specs.declared.state.Number.the-variants.{Of, Without}
 use Rattle.qspi_driver.specs.declared.state.Acted.{Acted}
 use Rattle.qspi_driver.specs.declared.state.Progress.{Progress}
 
-abbrev pub numberUnless : Bool → ℕ → Number
-numberUnless true n = Without
-numberUnless false n = Of n
-
 -- 01's number of an answer; it has none for an operation that goes on, nor for a start while one has not ended
 abbrev pub numberIn : Answer → Number
-numberIn (Given a) = numberUnless (isGoing a) (numberOf a)
+numberIn (Given a) = said.numberIn (saidBy a [])
 numberIn Busy = Without
 
 -- an operation at hand
@@ -52,10 +51,26 @@ progressOf o = record {
   used = o .used;
   replies = o .replies;
   programmed = programmedOf o;
+  gives = givenOf (o .status) (o .job .script .gives);
   older = keptOf (o .status) (o .wire .older);
   old = keptOf (o .status) (o .wire .old);
   last = keptOf (o .status) (o .wire .last);
 }
+
+-- the values that it gives, and the whole of it: number and values, used counts, bytes programmed
+abbrev pub valuesGiven : Progress → List ℕ
+valuesGiven p = valuesOf (p .gives) (p .older) (p .old) (p .last)
+
+abbrev pub answeredIn : Progress → Answered
+answeredIn p = record { says = saidBy (p .status) (valuesGiven p); used = p .used; replies = p .replies; programmed = p .programmed }
+
+-- "Its SLCR clock word is returned"
+abbrev pub clockIn : Gives → ℕ
+clockIn gives.Nothing = 0
+clockIn gives.Register = 0
+clockIn gives.Id = 0
+clockIn gives.LongId = 0
+clockIn (gives.Clock word) = word
 
 abbrev pub isUnderWay : Answer → Bool
 isUnderWay (Given a) = isGoing a

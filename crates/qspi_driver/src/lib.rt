@@ -4,7 +4,9 @@ ghost use mathlib.Core.Path.{_≡_};
 ghost use mathlib.Core.Bool.{true, false};
 ghost use lib.ListN.{length};
 ghost use Rattle.qspi_operation.specs.Step.{isGoing, dueOf, logOf, bufferOf};
+ghost use Rattle.qspi_operation.specs.Follows.{DueFollows};
 ghost use Rattle.qspi_driver.specs.State.{begunOf, steppedOf, progressOf};
+ghost use Rattle.qspi_driver.specs.Promise.{Started, Steps, AnswerFollows, Drives};
 ghost use Rattle.qspi_driver.specs.Driver.{idle, driverOf, drivenOf};
 ghost use Rattle.qspi_driver.specs.Saved.{Saves, Untouched};
 use crate::state::Answer;
@@ -37,6 +39,7 @@ impl QspiSpansionS25Fl256SIoMode {
     pub fn start(&mut self, op: Op) -> Answer
         ensures state { λ _. ⌜ now (self .exit) ≡ driverOf (begunOf (now (self .entry) .state) op .state) ⌝ }
         ensures answer { λ r. ⌜ r ≡ begunOf (now (self .entry) .state) op .answer ⌝ }
+        ensures begins { λ r. ⌜ Started (now (self .entry) .state .op) op r (now (self .exit) .state .op) ⌝ }
     {
         let state = self.state;
         let s = state::begin(state, op);
@@ -47,6 +50,7 @@ impl QspiSpansionS25Fl256SIoMode {
     // The access that is due, without effect.
     pub fn due(&self, data: &[u8]) -> Asked
         ensures due { λ r. ⌜ r ≡ dueOf (now (self .entry) .state .op) (now («data» .entry)) ⌝ }
+        ensures follows { λ r. ⌜ DueFollows (now (self .entry) .state .op) (now («data» .entry)) r ⌝ }
     {
         let state = self.state;
         state::due(state, data)
@@ -55,6 +59,7 @@ impl QspiSpansionS25Fl256SIoMode {
     // The answer so far.
     pub fn answer(&self) -> Progress
         ensures progress { λ r. ⌜ r ≡ progressOf (now (self .entry) .state .op) ⌝ }
+        ensures follows { λ r. ⌜ AnswerFollows (now (self .entry) .state .op) r ⌝ }
     {
         let state = self.state;
         state::answer_so_far(state)
@@ -67,6 +72,7 @@ impl QspiSpansionS25Fl256SIoMode {
         ensures answer { λ r. ⌜ r ≡ steppedOf (now (self .entry) .state) (now («data» .entry)) (length (now (buffer .entry))) (length (now (log .entry))) reply .answer ⌝ }
         ensures stored { λ _. ⌜ now (buffer .exit) ≡ bufferOf (now (self .entry) .state .op) (now («data» .entry)) (now (buffer .entry)) (length (now (log .entry))) reply ⌝ }
         ensures logged { λ _. ⌜ now (log .exit) ≡ logOf (now (self .entry) .state .op) (now («data» .entry)) (length (now (buffer .entry))) (now (log .entry)) reply ⌝ }
+        ensures follows { λ r. ⌜ Steps (now (self .entry) .state .op) (now («data» .entry)) (now (buffer .entry)) (now (log .entry)) reply r (now (self .exit) .state .op) (now (buffer .exit)) (now (log .exit)) ⌝ }
     {
         let state = self.state;
         let s = state::step(state, data, buffer, log, reply);
@@ -95,6 +101,7 @@ pub fn drive(
     ensures answer { λ r. ⌜ r .answer ≡ drivenOf driver op (now («data» .entry)) (now (replies .entry)) (now (buffer .entry)) (now (log .entry)) .answer ⌝ }
     ensures stored { λ _. ⌜ now (buffer .exit) ≡ drivenOf driver op (now («data» .entry)) (now (replies .entry)) (now (buffer .entry)) (now (log .entry)) .buffer ⌝ }
     ensures logged { λ _. ⌜ now (log .exit) ≡ drivenOf driver op (now («data» .entry)) (now (replies .entry)) (now (buffer .entry)) (now (log .entry)) .log ⌝ }
+    ensures drives { λ r. ⌜ Drives driver op (now («data» .entry)) (now (buffer .entry)) (now (log .entry)) (now (replies .entry)) r (now (buffer .exit)) (now (log .exit)) ⌝ }
 {
     let mut lent = driver;
     let mut answer = lent.start(op);

@@ -4,14 +4,20 @@ ghost use mathlib.Core.Path.{_≡_};
 ghost use lib.ListN.{length};
 ghost use Rattle.zedboard_bsp.specs.Words.{topByte};
 ghost use Rattle.zedboard_bsp.specs.DeviceId.{baseBytes, extendedBytes, replyBytes, longReplyBytes};
-ghost use Rattle.qspi_script.specs.Stages.{numberOf};
-ghost use Rattle.qspi_operation.specs.Step.{isGoing, dueOf, logOf, bufferOf, replyOf};
-ghost use Rattle.qspi_driver.specs.State.{numberUnless, numberIn, begunOf, actedBy, steppedOf, progressOf, isUnderWay};
+ghost use Prim.Native.Nat.{ℕ};
+ghost use mathlib.Core.List.{[], _∷_};
+ghost use Rattle.qspi_script.specs.declared.Gives.the-variants as gives;
+ghost use Rattle.qspi_operation.specs.Step.{dueOf, logOf, bufferOf, replyOf};
+ghost use Rattle.qspi_operation.specs.Follows.{DueFollows};
+ghost use Rattle.qspi_driver.specs.State.{numberIn, begunOf, actedBy, steppedOf, progressOf, valuesGiven, clockIn, isUnderWay};
+ghost use Rattle.qspi_driver.specs.Promise.{Started, Steps, AnswerFollows};
 use qspi_calls::run;
 use qspi_operation::Asked;
 use qspi_operation::Op;
 use qspi_operation::Reply;
 use qspi_operation::Stepped;
+use qspi_script::Gives;
+use qspi_script::Number;
 use qspi_script::Status;
 use zedboard_bsp::qspi_spansion::device_id::BaseDeviceId;
 use zedboard_bsp::qspi_spansion::device_id::ExtendedDeviceId;
@@ -30,29 +36,13 @@ pub enum Answer {
     Busy,
 }
 
-// Document 01's number of an answer, where it has one.
-pub enum Number {
-    Of(u32),
-    Without,
-}
-
-// The number of a status, unless the operation goes on.
-fn number_of(status: Status) -> Number
-    ensures number { λ r. ⌜ r ≡ numberUnless (isGoing status) (numberOf status) ⌝ }
-{
-    if qspi_operation::is_going(status) {
-        Number::Without
-    } else {
-        Number::Of(status.number())
-    }
-}
-
 impl Answer {
+    // Document 01's number, where the answer has one.
     pub fn number(self) -> Number
         ensures number { λ r. ⌜ r ≡ numberIn self ⌝ }
     {
         match self {
-            Answer::Given(status) => number_of(status),
+            Answer::Given(status) => status.number(),
             Answer::Busy => Number::Without,
         }
     }
@@ -64,13 +54,14 @@ pub struct Acted {
     pub answer: Answer,
 }
 
-// The answer so far: status, used counts (log words, replies), bytes programmed, and the last three
-// replies of a call that is done, of which a register's byte or an id is made.
+// The answer so far: status, used counts (log words, replies), bytes programmed, and of a call that is
+// done what it gives, with the last three replies, of which a register's byte or an id is made.
 pub struct Progress {
     pub status: Status,
     pub used: usize,
     pub replies: usize,
     pub programmed: usize,
+    pub gives: Gives,
     pub older: u32,
     pub old: u32,
     pub last: u32,
@@ -80,6 +71,7 @@ impl Progress {
     // The byte of `read_status_register_1` or `read_configuration_register`.
     pub fn register(self) -> u8
         ensures byte { λ r. ⌜ r ≡ topByte (self .last) ⌝ }
+        ensures value { λ r. ⌜ (self .gives ≡ gives.Register → valuesGiven self ≡ r ∷ []) ⌝ }
     {
         words::top_byte(self.last)
     }
@@ -87,6 +79,7 @@ impl Progress {
     // The id of `read_rdid_base`.
     pub fn base_device_id(self) -> BaseDeviceId
         ensures bytes { λ r. ⌜ baseBytes r ≡ replyBytes (self .last) ⌝ }
+        ensures values { λ r. ⌜ (self .gives ≡ gives.Id → valuesGiven self ≡ baseBytes r) ⌝ }
     {
         BaseDeviceId::from_reply(self.last)
     }
@@ -94,14 +87,30 @@ impl Progress {
     // The id of `read_rdid_extended`.
     pub fn extended_device_id(self) -> ExtendedDeviceId
         ensures bytes { λ r. ⌜ extendedBytes r ≡ longReplyBytes (self .older) (self .old) (self .last) ⌝ }
+        ensures values { λ r. ⌜ (self .gives ≡ gives.LongId → valuesGiven self ≡ extendedBytes r) ⌝ }
     {
         ExtendedDeviceId::from_replies(self.older, self.old, self.last)
+    }
+
+    // The SLCR clock word of `initialize`; 0 for any other call.
+    pub fn lqspi_clk_ctrl(self) -> u32
+        ensures word { λ r. ⌜ r ≡ clockIn (self .gives) ⌝ }
+        ensures value { λ r. ⌜ ((word : ℕ) → self .gives ≡ gives.Clock word → valuesGiven self ≡ r ∷ []) ⌝ }
+    {
+        let gives = self.gives;
+        match gives {
+            Gives::Nothing => 0,
+            Gives::Register => 0,
+            Gives::Id => 0,
+            Gives::LongId => 0,
+            Gives::Clock(word) => word,
+        }
     }
 }
 
 // Begins a call, unless one is under way.
 pub fn begin(state: State, op: Op) -> Acted
-    ensures acted { λ r. ⌜ r ≡ begunOf state op ⌝ }
+    ensures acted { λ r. ⌜ (r ≡ begunOf state op) × Started (state .op) op (r .answer) (r .state .op) ⌝ }
 {
     let at_hand = state.op;
     let status = at_hand.status;
@@ -122,22 +131,26 @@ pub fn begin(state: State, op: Op) -> Acted
 
 // The access that is due.
 pub fn due(state: State, data: &[u8]) -> Asked
-    ensures due { λ r. ⌜ r ≡ dueOf (state .op) (now («data» .entry)) ⌝ }
+    ensures due { λ r. ⌜ (r ≡ dueOf (state .op) (now («data» .entry))) × DueFollows (state .op) (now («data» .entry)) r ⌝ }
 {
     qspi_operation::due(state.op, data)
 }
 
 pub fn answer_so_far(state: State) -> Progress
-    ensures progress { λ r. ⌜ r ≡ progressOf (state .op) ⌝ }
+    ensures progress { λ r. ⌜ (r ≡ progressOf (state .op)) × AnswerFollows (state .op) r ⌝ }
 {
     let op = state.op;
     let status = op.status;
     let wire = op.wire;
+    let job = op.job;
+    let script = job.script;
+    let gives = script.gives;
     Progress {
         status,
         used: op.used,
         replies: op.replies,
         programmed: qspi_operation::programmed(op),
+        gives: run::given(status, gives),
         older: run::kept(status, wire.older),
         old: run::kept(status, wire.old),
         last: run::kept(status, wire.last),
@@ -159,7 +172,7 @@ fn holding(stepped: Stepped) -> Acted
 
 // A step of the operation at hand. A call without data or without a read buffer is lent an empty one.
 pub fn step(state: State, data: &[u8], buffer: &mut [u8], log: &mut [u32], reply: Reply) -> Acted
-    ensures acted { λ r. ⌜ (r ≡ steppedOf state (now («data» .entry)) (length (now (buffer .entry))) (length (now (log .entry))) reply) × (now (buffer .exit) ≡ bufferOf (state .op) (now («data» .entry)) (now (buffer .entry)) (length (now (log .entry))) reply) × (now (log .exit) ≡ logOf (state .op) (now («data» .entry)) (length (now (buffer .entry))) (now (log .entry)) reply) ⌝ }
+    ensures acted { λ r. ⌜ (r ≡ steppedOf state (now («data» .entry)) (length (now (buffer .entry))) (length (now (log .entry))) reply) × (now (buffer .exit) ≡ bufferOf (state .op) (now («data» .entry)) (now (buffer .entry)) (length (now (log .entry))) reply) × (now (log .exit) ≡ logOf (state .op) (now («data» .entry)) (length (now (buffer .entry))) (now (log .entry)) reply) × Steps (state .op) (now («data» .entry)) (now (buffer .entry)) (now (log .entry)) reply (r .answer) (r .state .op) (now (buffer .exit)) (now (log .exit)) ⌝ }
 {
     holding(qspi_operation::step(state.op, data, buffer, log, reply))
 }

@@ -32,7 +32,7 @@ halted zero b a o bytes rs buffer log h = refl
 halted (suc n) true a o bytes rs buffer log h = no (sym h)
 halted (suc n) false a o bytes rs buffer log h = refl
 
-left-le : (b : Bool) (n : ℕ) → left b n ≤ n
+pub left-le : (b : Bool) (n : ℕ) → left b n ≤ n
 left-le true n = omega arith
 left-le false n = omega arith
 
@@ -161,3 +161,34 @@ ends-in (suc n) a o bytes rs buffer log false e p = e
 
 pub run-ends : (o : Op) (bytes rs buffer log : List ℕ) → isGoing (runOf o bytes rs buffer log .answer) ≡ false
 run-ends o bytes rs buffer log = ends-in (fuel o log) (o .status) o bytes rs buffer log (isGoing (o .status)) refl (left-le (isGoing (o .status)) (fuel o log))
+
+-- ---- what a run keeps: the call as it was asked for, and the length of the buffer
+
+job-by : (v : Verdict) (o : Op) → act v o .op .job ≡ o .job
+job-by Ended o = refl
+job-by Changed o = refl
+job-by Full o = refl
+job-by Dry o = refl
+job-by (Made first v read) o = go (wireNext (o .wire) (frameOf (o .job) (o .place)) v)
+  where
+    go : (m : Moved) → movedBy m o (o .used + 2) (counted read (o .replies)) .op .job ≡ o .job
+    go (On w) = refl
+    go Over = refl
+
+-- THEOREM. Steps do not change what the call was asked for.
+pub step-job : (o : Op) (bytes : List ℕ) (n room : ℕ) (r : Reply) → stepOf o bytes n room r .op .job ≡ o .job
+step-job o bytes n room r = job-by (verdictOf o bytes n room r) o
+
+keeps-at : (n : ℕ) (b : Bool) (a : Status) (o : Op) (bytes rs buffer log : List ℕ) → (runAt n b a o bytes rs buffer log .op .job ≡ o .job) × (length (runAt n b a o bytes rs buffer log .buffer) ≡ length buffer)
+unfolding runAt
+keeps-at zero b a o bytes rs buffer log = (refl, refl)
+keeps-at (suc n) false a o bytes rs buffer log = (refl, refl)
+keeps-at (suc n) true a o bytes rs buffer log =
+    let k = keeps-at n (isGoing (a′ o bytes rs buffer log)) (a′ o bytes rs buffer log) (o′ o bytes rs buffer log) bytes rs (buffer′ o bytes rs buffer log) (log′ o bytes rs buffer log) in
+    (k .0 ∙ step-job o bytes (length buffer) (length log) (r o bytes rs buffer log), k .1 ∙ buffer-kept o bytes buffer (length log) (r o bytes rs buffer log))
+
+pub run-job : (o : Op) (bytes rs buffer log : List ℕ) → runOf o bytes rs buffer log .op .job ≡ o .job
+run-job o bytes rs buffer log = keeps-at (fuel o log) (isGoing (o .status)) (o .status) o bytes rs buffer log .0
+
+pub run-wide : (o : Op) (bytes rs buffer log : List ℕ) → length (runOf o bytes rs buffer log .buffer) ≡ length buffer
+run-wide o bytes rs buffer log = keeps-at (fuel o log) (isGoing (o .status)) (o .status) o bytes rs buffer log .1

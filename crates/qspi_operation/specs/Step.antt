@@ -19,6 +19,8 @@ use Rattle.qspi_script.specs.Stages.{frameOf, dueWord}
 use Rattle.qspi_script.specs.Turns.{turnOf}
 use Rattle.qspi_script.specs.declared.Status.{Status}
 use Rattle.qspi_script.specs.declared.Status.the-variants as status
+use Rattle.qspi_script.specs.declared.Number.{Number}
+use Rattle.qspi_script.specs.declared.Number.the-variants.{Of, Without}
 use Rattle.qspi_script.specs.declared.Job.{Job}
 use Rattle.qspi_script.specs.declared.Place.{Place}
 use Rattle.qspi_script.specs.declared.Turned.{Turned}
@@ -91,12 +93,16 @@ dueOf o bytes =
     (pickAsked (eqb (length bytes) (o .job .lent .«data»)) (shown (accessOf (o .job) (o .place) (o .wire) bytes)) asked.LentLengthChanged)
     asked.Nothing
 
--- its number and values: of an access what its log words will be, as far as they are known beforehand; none where the operation has ended
-abbrev pub askedAnswer : Asked → paper.Answer
-askedAnswer (asked.Read o) = paper.accepted ((0x100 + o) ∷ [])
-askedAnswer (asked.Write o v) = paper.accepted (o ∷ v ∷ [])
-askedAnswer asked.Nothing = paper.accepted []
-askedAnswer asked.LentLengthChanged = paper.refused paper.LentLengthChanged
+-- its number, where it has one, and values: of an access what its log words will be, as far as they are known beforehand; of an operation that has ended, nothing
+pub record Query : Type 0 where
+  pub number : Number
+  pub values : List ℕ
+
+abbrev pub askedAnswer : Asked → Query
+askedAnswer (asked.Read o) = record { number = Without; values = (0x100 + o) ∷ [] }
+askedAnswer (asked.Write o v) = record { number = Without; values = o ∷ v ∷ [] }
+askedAnswer asked.Nothing = record { number = Without; values = [] }
+askedAnswer asked.LentLengthChanged = record { number = Of (paper.number paper.LentLengthChanged); values = [] }
 
 -- ---- what a step does
 

@@ -9,9 +9,11 @@ ghost use Rattle.qspi_transfer.specs.declared.Phase.the-variants.{DrainStatus};
 ghost use Rattle.qspi_script.specs.Stages.{frameOf};
 ghost use Rattle.qspi_script.specs.declared.Status.the-variants.{Going};
 ghost use Rattle.qspi_operation.specs.Step.{isGoing, registerAccess, sendAccess, turnedOn, accessOf, shown, dueOf, askedAnswer, answered, sameLengths, going, stopped, counted, written, replyOf, stepOf, logOf, bufferOf, programmedOf};
+ghost use Rattle.qspi_operation.specs.Follows.{StepFollows, DueFollows, RunFollows};
 ghost use Rattle.qspi_operation.specs.Pass.{isOn, passedBy, standsFor, Onward};
 ghost use Rattle.qspi_operation.specs.Run.{runOf, Ran};
 use qspi_script::Job;
+use qspi_script::Number;
 use qspi_script::Place;
 use qspi_script::Status;
 use qspi_transfer::Due;
@@ -51,15 +53,15 @@ pub enum Asked {
 }
 
 impl Asked {
-    // Document 01's number: 25, or 0 where nothing is refused.
-    pub fn number(self) -> u32
+    // Document 01's number: 25, or none where nothing is refused.
+    pub fn number(self) -> Number
         ensures number { λ r. ⌜ r ≡ askedAnswer self .number ⌝ }
     {
         match self {
-            Asked::Read(_) => 0,
-            Asked::Write(_, _) => 0,
-            Asked::Nothing => 0,
-            Asked::LentLengthChanged => 25,
+            Asked::Read(_) => Number::Without,
+            Asked::Write(_, _) => Number::Without,
+            Asked::Nothing => Number::Without,
+            Asked::LentLengthChanged => Number::Of(25),
         }
     }
 }
@@ -184,6 +186,7 @@ fn show(due: Due) -> Asked
 // The access that is due, by the data lent.
 pub fn due(op: Op, data: &[u8]) -> Asked
     ensures due { λ r. ⌜ r ≡ dueOf op (now («data» .entry)) ⌝ }
+    ensures follows { λ r. ⌜ DueFollows op (now («data» .entry)) r ⌝ }
 {
     let job = op.job;
     let place = op.place;
@@ -441,6 +444,7 @@ pub fn step_at(
     ensures state { λ r. ⌜ r ≡ stepOf op (now («data» .entry)) (length (now (buffer .entry))) (length (now (log .entry))) (replyOf (now (replies .entry)) at) ⌝ }
     ensures logged { λ r. ⌜ now (log .exit) ≡ logOf op (now («data» .entry)) (length (now (buffer .entry))) (now (log .entry)) (replyOf (now (replies .entry)) at) ⌝ }
     ensures stored { λ r. ⌜ now (buffer .exit) ≡ bufferOf op (now («data» .entry)) (now (buffer .entry)) (length (now (log .entry))) (replyOf (now (replies .entry)) at) ⌝ }
+    ensures follows { λ r. ⌜ StepFollows op (now («data» .entry)) (now (buffer .entry)) (now (log .entry)) (replyOf (now (replies .entry)) at) r (now (buffer .exit)) (now (log .exit)) ⌝ }
 {
     let status = op.status;
     if is_going(status) {
@@ -457,6 +461,7 @@ pub fn step(op: Op, data: &[u8], buffer: &mut [u8], log: &mut [u32], reply: Repl
     ensures state { λ r. ⌜ r ≡ stepOf op (now («data» .entry)) (length (now (buffer .entry))) (length (now (log .entry))) reply ⌝ }
     ensures logged { λ r. ⌜ now (log .exit) ≡ logOf op (now («data» .entry)) (length (now (buffer .entry))) (now (log .entry)) reply ⌝ }
     ensures stored { λ r. ⌜ now (buffer .exit) ≡ bufferOf op (now («data» .entry)) (now (buffer .entry)) (length (now (log .entry))) reply ⌝ }
+    ensures follows { λ r. ⌜ StepFollows op (now («data» .entry)) (now (buffer .entry)) (now (log .entry)) reply r (now (buffer .exit)) (now (log .exit)) ⌝ }
 {
     match reply {
         Reply::Word(word) => {
@@ -520,6 +525,7 @@ fn transfer(op: Op, data: &[u8], buffer: &mut [u8], log: &mut [u32], replies: &[
 // Steps an operation to its end, the replies in order.
 pub fn run(op: Op, data: &[u8], buffer: &mut [u8], log: &mut [u32], replies: &[u32]) -> Stepped
     ensures ran { λ r. ⌜ Ran r (now (buffer .exit)) (now (log .exit)) (runOf op (now («data» .entry)) (now (replies .entry)) (now (buffer .entry)) (now (log .entry))) ⌝ }
+    ensures follows { λ r. ⌜ RunFollows op (now («data» .entry)) (now (buffer .entry)) (now (log .entry)) (now (replies .entry)) r (now (buffer .exit)) (now (log .exit)) ⌝ }
 {
     let mut o = op;
     let mut answer = op.status;

@@ -5,7 +5,6 @@ use mathlib.Core.Bool.{Bool, true, false, cond}
 use mathlib.Core.List.{List, [], _∷_}
 use lib.Dec.{leb, eqb}
 use lib.ListN.{length, getD}
-use Rattle.zynq7000.specs.Number as paper
 use Rattle.zynq7000.specs.Bits.{flagValue}
 use Rattle.zedboard_bsp.specs.Words.{wordOf, commandOnly, commandWord, writeStatusWord, writeRegistersWord}
 use Rattle.zedboard_bsp.specs.declared.qspi_spansion.RegisterId.the-variants as command
@@ -13,27 +12,8 @@ use Rattle.qspi_transfer.specs.LowLevel.{sequenceMore}
 use Rattle.qspi_transfer.specs.declared.Frame.{Frame}
 use Rattle.qspi_script.specs.declared.Stage.{Stage}
 use Rattle.qspi_script.specs.declared.Stage.the-variants.{Enable, Disable, Clear, ReadStatus, ReadConfig, WriteStatus, WriteRegisters, ReadId, ReadLongId, Erase, Program, Poll, Read, Registers, End}
-use Rattle.qspi_script.specs.declared.Status.{Status}
-use Rattle.qspi_script.specs.declared.Status.the-variants as status
 use Rattle.qspi_script.specs.declared.Job.{Job}
 use Rattle.qspi_script.specs.declared.Place.{Place}
-
--- document 01's number of a status: 0 where nothing is refused
-abbrev pub numberOf : Status → ℕ
-numberOf status.Going = 0
-numberOf status.Done = 0
-numberOf status.OutOfRange = paper.number paper.OutOfRange
-numberOf status.Alignment = paper.number paper.Alignment
-numberOf status.DataTooLarge = paper.number paper.DataTooLarge
-numberOf status.NotAligned = paper.number paper.NotAligned
-numberOf status.CrossesPageBoundary = paper.number paper.CrossesPageBoundary
-numberOf status.AddressSpan = paper.number paper.AddressSpan
-numberOf status.FieldTooWide = paper.number paper.FieldTooWide
-numberOf status.EraseErrorBitSet = paper.number paper.EraseErrorBitSet
-numberOf status.ProgrammingErrorBitSet = paper.number paper.ProgrammingErrorBitSet
-numberOf status.RepliesEnded = paper.number paper.RepliesEnded
-numberOf status.LogFull = paper.number paper.LogFull
-numberOf status.LentLengthChanged = paper.number paper.LentLengthChanged
 
 -- ---- how long a transfer is
 

@@ -2,7 +2,9 @@
 // the Rust file `zedboard-bsp/src/qspi_spansion.rs`. A stage is one transfer.
 ghost use mathlib.Core.Path.{_≡_};
 ghost use Prim.Native.Nat.{_≤_};
-ghost use Rattle.qspi_script.specs.Stages.{numberOf, oneWord, readWords, readFrame, registersFrame, frameOf, chunkAddress, readWord, firstWord, dataWord, furtherWord, dueWord};
+ghost use mathlib.Core.List.{[]};
+ghost use Rattle.qspi_script.specs.Answer.{saidBy, numberIn, orElse};
+ghost use Rattle.qspi_script.specs.Stages.{oneWord, readWords, readFrame, registersFrame, frameOf, chunkAddress, readWord, firstWord, dataWord, furtherWord, dueWord};
 ghost use Rattle.qspi_script.specs.Turns.{statusOf, begin, finish, withRegisters, nextChunk, readOn, pageChunk, nextPage, settled, failed, polled, configured, protecting, statusRead, configRead, turnOf};
 use qspi_transfer::Frame;
 use qspi_transfer::low_level::Sequence;
@@ -51,26 +53,43 @@ pub enum Status {
     LentLengthChanged,
 }
 
-impl Status {
-    // Document 01's number; 0 for done and while going on.
-    pub fn number(self) -> u32
-        ensures number { λ r. ⌜ r ≡ numberOf self ⌝ }
+// Document 01's number of an answer, where it has one: a call that goes on has none.
+pub enum Number {
+    Of(u32),
+    Without,
+}
+
+impl Number {
+    pub fn unwrap_or(self, without: u32) -> u32
+        ensures number { λ r. ⌜ r ≡ orElse self without ⌝ }
     {
         match self {
-            Status::Going => 0,
-            Status::Done => 0,
-            Status::OutOfRange => 1,
-            Status::Alignment => 2,
-            Status::DataTooLarge => 3,
-            Status::NotAligned => 4,
-            Status::CrossesPageBoundary => 5,
-            Status::AddressSpan => 10,
-            Status::FieldTooWide => 12,
-            Status::EraseErrorBitSet => 21,
-            Status::ProgrammingErrorBitSet => 22,
-            Status::RepliesEnded => 23,
-            Status::LogFull => 24,
-            Status::LentLengthChanged => 25,
+            Number::Of(number) => number,
+            Number::Without => without,
+        }
+    }
+}
+
+impl Status {
+    // 0 is said only by a call that is done.
+    pub fn number(self) -> Number
+        ensures number { λ r. ⌜ r ≡ numberIn (saidBy self []) ⌝ }
+    {
+        match self {
+            Status::Going => Number::Without,
+            Status::Done => Number::Of(0),
+            Status::OutOfRange => Number::Of(1),
+            Status::Alignment => Number::Of(2),
+            Status::DataTooLarge => Number::Of(3),
+            Status::NotAligned => Number::Of(4),
+            Status::CrossesPageBoundary => Number::Of(5),
+            Status::AddressSpan => Number::Of(10),
+            Status::FieldTooWide => Number::Of(12),
+            Status::EraseErrorBitSet => Number::Of(21),
+            Status::ProgrammingErrorBitSet => Number::Of(22),
+            Status::RepliesEnded => Number::Of(23),
+            Status::LogFull => Number::Of(24),
+            Status::LentLengthChanged => Number::Of(25),
         }
     }
 }
@@ -82,6 +101,16 @@ pub enum Purpose {
     Protect,
 }
 
+// What a call that is done gives beside its counts: nothing, the byte of a register, an id of one reply or
+// of three, or the SLCR clock word, which follows from its inputs.
+pub enum Gives {
+    Nothing,
+    Register,
+    Id,
+    LongId,
+    Clock(u32),
+}
+
 // What comes after what, where calls differ. `erasing` picks the error bit; `paging` is `write_pages`,
 // which goes on with the next chunk once one is programmed.
 pub struct Script {
@@ -91,6 +120,7 @@ pub struct Script {
     pub erasing: bool,
     pub paging: bool,
     pub purpose: Purpose,
+    pub gives: Gives,
 }
 
 // The lengths of the memory that the call was lent at its start.

@@ -99,9 +99,13 @@ fn counted(before: &[u8], n: usize, after: &[u8]) {
     text(after);
 }
 
+// A run has an end, and so a number.
+const NO_NUMBER: u32 = 26;
+
 fn answer(status: Status) {
+    let number = status.number();
     text(b"answer ");
-    printing::answer(status.number());
+    printing::answer(number.unwrap_or(NO_NUMBER));
     text(b"\n");
 }
 

@@ -34,6 +34,10 @@ StepIs o bytes buffer log a s buffer₁ log₁ =
     (s ≡ stepOf o bytes (length buffer) (length log) a)
     × ((log₁ ≡ logOf o bytes (length buffer) log a) × (buffer₁ ≡ bufferOf o bytes buffer (length log) a))
 
+-- what `step` promises by counters, without the call that it follows
+pub by-counters : {A B C D : Type 0} → A × (B × (C × D)) → A × (B × C)
+by-counters h = (h .0, (h .1 .0, h .1 .1 .0))
+
 pub is-turn : {t : Turn} (r : Ran) (buffer log sent received array : List ℕ) → t ≡ turnFrom r buffer log sent received array
     → TurnIs t r buffer log sent received array
 is-turn r buffer log sent received array e =

@@ -9,18 +9,17 @@ use lib.ListN.{length, take, drop, length-take, length-drop}
 use borrow.Author.Tests.{lt-ltb, le-ltb, eq-eqb, ne-eqb}
 use Rattle.zynq7000.specs.Bits.{isSet}
 use Rattle.zynq7000.specs.declared.qspi.Access.{Access}
-use Rattle.qspi_script.specs.Stages.{numberOf}
 use Rattle.qspi_script.specs.declared.Status.{Status}
 use Rattle.qspi_script.specs.declared.Status.the-variants.{Done, OutOfRange, NotAligned, CrossesPageBoundary, EraseErrorBitSet, ProgrammingErrorBitSet}
 use Rattle.qspi_calls.specs.Chunks.{chunksIn, chunks}
-use Rattle.qspi_calls.specs.Machine.{drain, Action, first, going, none, Transfer, opening, Script, ends, counts, onward, Result, runs, called}
+use Rattle.qspi_operation.specs.Machine.{drain, Action, first, going, none, Transfer, opening, Script, ends, counts, onward, Result, runs, called}
 use Rattle.qspi_calls.specs.Calls.{refused, working, failing, wordsOf, erasing, eraseSector, programming, programThen, program, pages, writePages, read, enableIoMode}
-use Rattle.qspi_calls.specs.Prompt.{repliesOf}
+use Rattle.qspi_operation.specs.Machine.{repliesOf}
 use Rattle.qspi_calls.proofs.PromptLogs.{Logs, counting-logs, works, read-logs, read-chunk, read-none, io-mode-logs}
 use Rattle.qspi_calls.proofs.PageExamples.{prompt}
 use Rattle.qspi_calls.proofs.Pages.{chunks-cons}
 use Rattle.qspi_calls.proofs.ProgramWords.{length-words}
-use Rattle.starred_cases.specs.Cases.{any, write-pages, accepted, gives, sends, gives-with, Case, case, starred, wordsTo, Ends, Meets, Holds, AllHold}
+use Rattle.starred_cases.specs.Cases.{any, write-pages, accepted, gives, sends, gives-with, Case, case, starred, wordsTo, Ends, Meets, Holds, AllHold, numberOf}
 use Rattle.starred_cases.proofs.Through.{sending, Through, stops, arrives, performs, repeating, counting, arrives-always}
 
 -- ---- runs

@@ -1,7 +1,6 @@
--- The start is tied to its script, so its run is the script's. Assumes nothing.
+-- The start begins its script, so its run is the script's. Assumes nothing.
 use denote.Ref.{now}
 use native.Mathlib.Omega.{arith}
-use Rattle.qspi_calls.proofs.Promised.{without-buffer}
 use Rattle.power_cut.proofs.Promised as promise
 use borrow.Author.Needs.{needs}
 use Rattle.power_cut.proofs.write_pages.Statement.{statement}
@@ -41,11 +40,10 @@ same-length c = search needs
 returns : tie.Need-returns
 returns c =
     let w = c .before .before .before .before .before .before .before .before .before .before .before in
-    let n = c .before .before .before .before .before .run .ensures in
     let p =
-    promise.promised (w .before .args .addr) (now (w .before .args .«data»)) (now (w .before .args .replies)) (now (w .before .args .log)) (omega (arith, w .before .good)) (c .before .before .before .before .before .before .before .before .write-pages .ensures)
-    (without-buffer n) (c .before .programmed .ensures) (c .finish .ensures) in
-    (p .ran, (p .counted, (p .logged, promise.saved (w .before .args .addr) (now (w .before .args .«data»)) (now (w .before .args .replies)) (now (w .before .args .log)) (λ i. omega (arith, w .shared-slice-known .given i)) p)))
+    promise.promised (w .before .args .addr) (now (w .before .args .«data»)) (now (w .before .args .replies)) (now (w .before .args .log)) (c .before .before .before .before .before .before .before .before .write-pages .ensures)
+    (c .before .before .before .before .before .run .ensures) (c .before .programmed .ensures) (c .finish .ensures) in
+    (p .answer, (p .logged, promise.saved (w .before .args .addr) (now (w .before .args .«data»)) (now (w .before .args .replies)) (now (w .before .args .log)) (λ i. omega (arith, w .shared-slice-known .given i)) p))
 
 pub write-pages-spec : {M : Type 1} → statement M
 write-pages-spec =

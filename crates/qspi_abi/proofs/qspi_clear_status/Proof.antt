@@ -1,12 +1,5 @@
--- The start is tied to its script, so its run is the script's, in numbers. Assumes nothing.
-use denote.Ref.{now}
-use mathlib.Core.List.{[]}
-use native.Mathlib.Omega.{arith}
+-- The start begins its script, so its run is the script's, in numbers. Assumes nothing.
 use Rattle.qspi_calls.specs.Calls as call
-use Rattle.qspi_calls.proofs.Short.{no-values}
-use Rattle.qspi_calls.proofs.Promised as promise
-use Rattle.qspi_calls.proofs.OneTransfer as one
-use Rattle.qspi_abi.proofs.Outputs as outputs
 use borrow.Author.Needs.{needs}
 use Rattle.qspi_abi.proofs.qspi_clear_status.Statement.{statement}
 use Rattle.qspi_abi.proofs.qspi_clear_status.Tie as tie
@@ -30,8 +23,7 @@ same-length c = search needs
 -- src/lib.rt:503:1
 returns : tie.Need-returns
 returns c =
-    let x = c .before .before .before .before .before .before .before .args in
-    outputs.commanded (promise.met no-values call.clearStatus [] (now (x .replies)) (now (x .log)) [] (omega (arith, c .before .before .before .before .before .before .before .good)) (c .before .before .before .before .clear-status .ensures) (one.clear-status (now (x .log)))) (c .before .before .command .ensures)
+    c .before .before .command .ensures call.clearStatus (c .before .before .before .before .clear-status .ensures .1)
 
 pub qspi-clear-status-spec : {M : Type 1} → statement M
 qspi-clear-status-spec =

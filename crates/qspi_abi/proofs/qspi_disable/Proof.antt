@@ -1,12 +1,5 @@
--- The start is tied to its script, so its run is the script's, in numbers. Assumes nothing.
-use denote.Ref.{now}
-use mathlib.Core.List.{[]}
-use native.Mathlib.Omega.{arith}
+-- The start begins its script, so its run is the script's, in numbers. Assumes nothing.
 use Rattle.qspi_calls.specs.Calls as call
-use Rattle.qspi_calls.proofs.Short.{no-values}
-use Rattle.qspi_calls.proofs.Promised as promise
-use Rattle.qspi_calls.proofs.LowLevelCalls as low
-use Rattle.qspi_abi.proofs.Outputs as outputs
 use borrow.Author.Needs.{needs}
 use Rattle.qspi_abi.proofs.qspi_disable.Statement.{statement}
 use Rattle.qspi_abi.proofs.qspi_disable.Tie as tie
@@ -30,8 +23,7 @@ same-length c = search needs
 -- src/lib.rt:463:1
 returns : tie.Need-returns
 returns c =
-    let x = c .before .before .before .before .before .before .before .args in
-    outputs.commanded (promise.met no-values call.disable [] (now (x .replies)) (now (x .log)) [] (omega (arith, c .before .before .before .before .before .before .before .good)) (c .before .before .before .before .disable .ensures) (low.disable (now (x .log)))) (c .before .before .command .ensures)
+    c .before .before .command .ensures call.disable (c .before .before .before .before .disable .ensures .1)
 
 pub qspi-disable-spec : {M : Type 1} → statement M
 qspi-disable-spec = tie.close (tie.spec disable-requires command-requires same-length returns)

@@ -1,12 +1,5 @@
--- The start is tied to its script, so its run is the script's, in numbers. Assumes nothing.
-use denote.Ref.{now}
-use mathlib.Core.List.{[]}
-use native.Mathlib.Omega.{arith}
+-- The start begins its script, so its run is the script's, in numbers. Assumes nothing.
 use Rattle.qspi_calls.specs.Calls as call
-use Rattle.qspi_calls.proofs.Short.{no-values}
-use Rattle.qspi_calls.proofs.Promised as promise
-use Rattle.qspi_calls.proofs.LowLevelCalls as low
-use Rattle.qspi_abi.proofs.Outputs as outputs
 use borrow.Author.Needs.{needs}
 use Rattle.qspi_abi.proofs.qspi_enable_io_mode.Statement.{statement}
 use Rattle.qspi_abi.proofs.qspi_enable_io_mode.Tie as tie
@@ -31,7 +24,7 @@ same-length c = search needs
 returns : tie.Need-returns
 returns c =
     let x = c .before .before .before .before .before .before .before .args in
-    outputs.commanded (promise.met no-values (call.enableIoMode (x .dual-flash)) [] (now (x .replies)) (now (x .log)) [] (omega (arith, c .before .before .before .before .before .before .before .good)) (c .before .before .before .before .enable-io-mode .ensures) (low.enable-io-mode (x .dual-flash) (now (x .log)))) (c .before .before .command .ensures)
+    c .before .before .command .ensures (call.enableIoMode (x .dual-flash)) (c .before .before .before .before .enable-io-mode .ensures .1)
 
 pub qspi-enable-io-mode-spec : {M : Type 1} → statement M
 qspi-enable-io-mode-spec =

@@ -1,12 +1,5 @@
--- The start is tied to its script, so its run is the script's, in numbers. Assumes nothing.
-use denote.Ref.{now}
-use mathlib.Core.List.{[]}
-use native.Mathlib.Omega.{arith}
+-- The start begins its script, so its run is the script's, in numbers. Assumes nothing.
 use Rattle.qspi_calls.specs.Calls as call
-use Rattle.qspi_calls.proofs.Short.{no-values}
-use Rattle.qspi_calls.proofs.Promised as promise
-use Rattle.qspi_calls.proofs.Several as several
-use Rattle.qspi_abi.proofs.Outputs as outputs
 use borrow.Author.Needs.{needs}
 use Rattle.qspi_abi.proofs.qspi_erase_sector.Statement.{statement}
 use Rattle.qspi_abi.proofs.qspi_erase_sector.Tie as tie
@@ -31,7 +24,7 @@ same-length c = search needs
 returns : tie.Need-returns
 returns c =
     let x = c .before .before .before .before .before .before .before .args in
-    outputs.commanded (promise.met no-values (call.eraseSector (x .addr)) [] (now (x .replies)) (now (x .log)) [] (omega (arith, c .before .before .before .before .before .before .before .good)) (c .before .before .before .before .erase-sector .ensures) (several.erase-sector (x .addr) (now (x .log)))) (c .before .before .command .ensures)
+    c .before .before .command .ensures (call.eraseSector (x .addr)) (c .before .before .before .before .erase-sector .ensures .1)
 
 pub qspi-erase-sector-spec : {M : Type 1} → statement M
 qspi-erase-sector-spec =

@@ -1,14 +1,8 @@
--- The start is tied to its script, so its run is the script's, in numbers. Assumes nothing.
+-- The start begins its script, so its run is the script's, in numbers. Assumes nothing.
+use mathlib.Core.Bool.{false}
 use denote.Ref.{now}
 use lib.ListN.{length}
-use mathlib.Core.List.{[]}
-use mathlib.Core.Bool.{false}
-use native.Mathlib.Omega.{arith}
 use Rattle.qspi_calls.specs.Calls as call
-use Rattle.qspi_calls.proofs.Short.{no-values}
-use Rattle.qspi_calls.proofs.Promised as promise
-use Rattle.qspi_calls.proofs.ReadCalls as reading
-use Rattle.qspi_abi.proofs.Outputs as outputs
 use borrow.Author.Needs.{needs}
 use Rattle.qspi_abi.proofs.qspi_read_page_read.Statement.{statement}
 use Rattle.qspi_abi.proofs.qspi_read_page_read.Tie as tie
@@ -17,27 +11,27 @@ use Rattle.qspi_abi.proofs.qspi_read_page_read.Lts as lts
 use Rattle.qspi_abi.proofs.read.Reads as read-reads
 use Rattle.qspi_calls.proofs.start.read_page_read.Reads as read-page-read-reads
 
--- src/lib.rt:565:9
+-- src/lib.rt:556:9
 read-page-read-requires : tie.Need-read-page-read-requires
 read-page-read-requires c κs = search needs
 
--- src/lib.rt:566:5
+-- src/lib.rt:557:5
 read-requires : tie.Need-read-requires
 read-requires c κs = search needs
 
--- src/lib.rt:554:1
+-- src/lib.rt:545:1
 same-length : tie.Need-same-length
 same-length c = search needs
 
--- src/lib.rt:554:1
+-- src/lib.rt:545:1
 same-length-2 : tie.Need-same-length-2
 same-length-2 c = search needs
 
--- src/lib.rt:554:1
+-- src/lib.rt:545:1
 returns : tie.Need-returns
 returns c =
     let x = c .before .before .before .before .before .before .before .before .before .before .before .args in
-    outputs.buffered (promise.met no-values (call.read false false (x .addr) (length (now (x .buffer)))) [] (now (x .replies)) (now (x .log)) (now (x .buffer)) (omega (arith, c .before .before .before .before .before .before .before .before .before .before .before .good)) (c .before .before .before .before .before .before .before .read-page-read .ensures) (reading.read false false (x .addr) (now (x .log)) (now (x .buffer)))) (c .before .before .before .before .read .ensures)
+    c .before .before .before .before .read .ensures (call.read false false (x .addr) (length (now (x .buffer)))) (c .before .before .before .before .before .before .before .read-page-read .ensures .1)
 
 pub qspi-read-page-read-spec : {M : Type 1} → statement M
 qspi-read-page-read-spec =

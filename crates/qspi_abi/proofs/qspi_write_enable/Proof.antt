@@ -1,12 +1,5 @@
--- The start is tied to its script, so its run is the script's, in numbers. Assumes nothing.
-use denote.Ref.{now}
-use mathlib.Core.List.{[]}
-use native.Mathlib.Omega.{arith}
+-- The start begins its script, so its run is the script's, in numbers. Assumes nothing.
 use Rattle.qspi_calls.specs.Calls as call
-use Rattle.qspi_calls.proofs.Short.{no-values}
-use Rattle.qspi_calls.proofs.Promised as promise
-use Rattle.qspi_calls.proofs.OneTransfer as one
-use Rattle.qspi_abi.proofs.Outputs as outputs
 use borrow.Author.Needs.{needs}
 use Rattle.qspi_abi.proofs.qspi_write_enable.Statement.{statement}
 use Rattle.qspi_abi.proofs.qspi_write_enable.Tie as tie
@@ -30,8 +23,7 @@ same-length c = search needs
 -- src/lib.rt:485:1
 returns : tie.Need-returns
 returns c =
-    let x = c .before .before .before .before .before .before .before .args in
-    outputs.commanded (promise.met no-values call.writeEnable [] (now (x .replies)) (now (x .log)) [] (omega (arith, c .before .before .before .before .before .before .before .good)) (c .before .before .before .before .write-enable .ensures) (one.write-enable (now (x .log)))) (c .before .before .command .ensures)
+    c .before .before .command .ensures call.writeEnable (c .before .before .before .before .write-enable .ensures .1)
 
 pub qspi-write-enable-spec : {M : Type 1} → statement M
 qspi-write-enable-spec =

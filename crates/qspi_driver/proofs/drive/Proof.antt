@@ -38,6 +38,8 @@ use Rattle.qspi_operation.specs.Step.{logOf, bufferOf, replyOf}
 use Rattle.qspi_operation.proofs.Op as Opᵀ
 use Rattle.qspi_operation.proofs.Reply as Replyᵀ
 use Rattle.qspi_driver.specs.State.{begunOf, steppedOf, isUnderWay}
+use Rattle.qspi_driver.specs.Promise as follow
+use Rattle.qspi_driver.proofs.Promised.{drives as all-of-it}
 use Rattle.qspi_driver.specs.Driver.{Driver, driverOf, Drive}
 use Rattle.qspi_driver.specs.declared.state.Answer.{Answer}
 use Rattle.qspi_driver.proofs.QspiSpansionS25Fl256SIoMode as Driverᵀ
@@ -45,7 +47,7 @@ use Rattle.qspi_driver.proofs.Driven as Drivenᵀ
 use Rattle.qspi_driver.proofs.state.Answer as Answerᵀ
 use Rattle.hand_walks.proofs.Known.{slice}
 use Rattle.qspi_driver.proofs.Types as Types
-use Rattle.hand_walks.proofs.Clauses.{each-of-four}
+use Rattle.hand_walks.proofs.Clauses.{each-of-five}
 use Rattle.qspi_driver.proofs.Driving.{Stepped, Good, begins, goes-on, nearer, ends, steps}
 use Rattle.qspi_driver.proofs.DriveWalk as drives
 use Rattle.qspi_driver.proofs.DriveWalk.{lent-at}
@@ -112,9 +114,9 @@ module _ {M : Type 1} (𝓤 : URA M) (H : Heap 𝓤) (A : Atoms 𝓤) (W : Given
       qed W (raw (Start 𝓤 H A mem run .post (at-start ν b δ) w) ∷ []) ∵ updating ! $
       use1 W (later (some (λ (r : Answer). ((‵ (flft (ν ∷ []) fullShare) ⊛ ‵ ftrue) ⊛ ‵ (Answerᵀ.the-row .own r (w ∷ []))) ⊛ raw (ensured 𝓤 H A start.ended (start.clauses 𝓤 H A mem run) (ν ∷ [], tt) (record { ptr = (b, 0); name = δ; now = driver }, (op, tt)) tt r)))) (id⊢ 𝓤 _) $
       await ! tt $ pick ! (λ r. split ! $ move ! (1 ∷ []) $
-      use1 W (some (λ (z : Driver × (Unit {0} × Unit {0})). ‵ (lasts start.ended (ν ∷ [], tt) (record { ptr = (b, 0); name = δ; now = driver }, (op, tt)) z) ⊛ (raw (fact 𝓤 (z .0 ≡ driverOf (begunOf (driver .state) op .state))) ⊛ raw (fact 𝓤 (r ≡ begunOf (driver .state) op .answer))))) (id⊢ 𝓤 _) $
+      use1 W (some (λ (z : Driver × (Unit {0} × Unit {0})). ‵ (lasts start.ended (ν ∷ [], tt) (record { ptr = (b, 0); name = δ; now = driver }, (op, tt)) z) ⊛ (raw (fact 𝓤 (z .0 ≡ driverOf (begunOf (driver .state) op .state))) ⊛ raw (fact 𝓤 (r ≡ begunOf (driver .state) op .answer)) ⊛ raw (fact 𝓤 (follow.Started (driver .state .op) op r (z .0 .state .op)))))) (id⊢ 𝓤 _) $
       pick ! (λ z. split ! $ move ! (1 ∷ []) $ split ! $
-      heard ! (z .0 ≡ driverOf (begunOf (driver .state) op .state)) (λ e₀. heard ! (r ≡ begunOf (driver .state) op .answer) (λ e₁.
+      heard ! (z .0 ≡ driverOf (begunOf (driver .state) op .state)) (λ e₀. split ! $ heard ! (r ≡ begunOf (driver .state) op .answer) (λ e₁. drop ! $
       fsplit ! $ move ! (1 ∷ []) $ fsplit ! $ drop ! $ drop ! $ move ! (1 ∷ []) $ split ! $ split ! $ move ! (1 ∷ []) $ drop ! $
       move ! (0 ∷ 2 ∷ 1 ∷ []) $ at-once ! $
       show ! (λ (r : Answer). ex 𝓤 (λ (d : Driver). sep 𝓤 (sep 𝓤 (A .lft (ν ∷ []) fullShare) (sep 𝓤 (A .res δ (Driverᵀ.the-row .coded .code d)) (sem 𝓤 H A (Answerᵀ.the-row .own r (w ∷ []))))) (fact 𝓤 (Started d r)))) r $
@@ -169,11 +171,11 @@ module _ {M : Type 1} (𝓤 : URA M) (H : Heap 𝓤) (A : Atoms 𝓤) (W : Given
         qed W (raw (Step 𝓤 H A mem run .post at-step w) ∷ []) ∵ updating ! $
         use1 W (later (some (λ (r : Answer). ((‵ (flft (ν ∷ []) fullShare) ⊛ ‵ (flft κ₀ q₀) ⊛ ‵ (flft (ρ₁ ∷ []) fullShare) ⊛ ‵ (flft (ρ₂ ∷ []) fullShare) ⊛ ‵ ftrue) ⊛ ‵ (Answerᵀ.the-row .own r (w ∷ []))) ⊛ raw (ensured 𝓤 H A step.ended (step.clauses 𝓤 H A mem run) (ν ∷ [], (κ₀, (ρ₁ ∷ [], (ρ₂ ∷ [], tt)))) (record { ptr = (b, 0); name = δ; now = d }, (bytes, (lent-at buffer ε₁ stored, (lent-at log ε₂ logged, (r₀, tt))))) tt r)))) (id⊢ 𝓤 _) $
         await ! tt $ pick ! (λ r. split ! $ move ! (1 ∷ []) $
-        use1 W (some (λ (z : Driver × (Unit {0} × (List ℕ × (List ℕ × (Unit {0} × Unit {0}))))). ‵ (lasts step.ended (ν ∷ [], (κ₀, (ρ₁ ∷ [], (ρ₂ ∷ [], tt)))) (record { ptr = (b, 0); name = δ; now = d }, (bytes, (lent-at buffer ε₁ stored, (lent-at log ε₂ logged, (r₀, tt))))) z) ⊛ (raw (fact 𝓤 (z .0 ≡ driverOf (steppedOf (d .state) (bytes .now) (length stored) (length logged) r₀ .state))) ⊛ raw (fact 𝓤 (r ≡ steppedOf (d .state) (bytes .now) (length stored) (length logged) r₀ .answer)) ⊛ raw (fact 𝓤 (z .1 .1 .0 ≡ bufferOf (d .state .op) (bytes .now) stored (length logged) r₀)) ⊛ raw (fact 𝓤 (z .1 .1 .1 .0 ≡ logOf (d .state .op) (bytes .now) (length stored) logged r₀))))) (id⊢ 𝓤 _) $
+        use1 W (some (λ (z : Driver × (Unit {0} × (List ℕ × (List ℕ × (Unit {0} × Unit {0}))))). ‵ (lasts step.ended (ν ∷ [], (κ₀, (ρ₁ ∷ [], (ρ₂ ∷ [], tt)))) (record { ptr = (b, 0); name = δ; now = d }, (bytes, (lent-at buffer ε₁ stored, (lent-at log ε₂ logged, (r₀, tt))))) z) ⊛ (raw (fact 𝓤 (z .0 ≡ driverOf (steppedOf (d .state) (bytes .now) (length stored) (length logged) r₀ .state))) ⊛ raw (fact 𝓤 (r ≡ steppedOf (d .state) (bytes .now) (length stored) (length logged) r₀ .answer)) ⊛ raw (fact 𝓤 (z .1 .1 .0 ≡ bufferOf (d .state .op) (bytes .now) stored (length logged) r₀)) ⊛ raw (fact 𝓤 (z .1 .1 .1 .0 ≡ logOf (d .state .op) (bytes .now) (length stored) logged r₀)) ⊛ raw (fact 𝓤 (follow.Steps (d .state .op) (bytes .now) stored logged r₀ r (z .0 .state .op) (z .1 .1 .0) (z .1 .1 .1 .0)))))) (id⊢ 𝓤 _) $
         pick ! (λ z. split ! $ move ! (1 ∷ []) $ split ! $
         heard ! (z .0 ≡ driverOf (steppedOf (d .state) (bytes .now) (length stored) (length logged) r₀ .state)) (λ e₀. split ! $
         heard ! (r ≡ steppedOf (d .state) (bytes .now) (length stored) (length logged) r₀ .answer) (λ e₁. split ! $
-        heard ! (z .1 .1 .0 ≡ bufferOf (d .state .op) (bytes .now) stored (length logged) r₀) (λ e₂. heard ! (z .1 .1 .1 .0 ≡ logOf (d .state .op) (bytes .now) (length stored) logged r₀) (λ e₃.
+        heard ! (z .1 .1 .0 ≡ bufferOf (d .state .op) (bytes .now) stored (length logged) r₀) (λ e₂. split ! $ heard ! (z .1 .1 .1 .0 ≡ logOf (d .state .op) (bytes .now) (length stored) logged r₀) (λ e₃. drop ! $
         fsplit ! $ move ! (1 ∷ []) $ fsplit ! $ drop ! $ fsplit ! $ fsplit ! $ move ! (1 ∷ []) $ feqL ! (λ same-last-buffer. move ! (1 ∷ []) $ fsplit ! $ fsplit ! $
         move ! (1 ∷ []) $ feqL ! (λ same-last-log. move ! (1 ∷ []) $ fsplit ! $ drop ! $ drop ! $ move ! (3 ∷ []) $ split ! $ split ! $ move ! (1 ∷ []) $ split ! $
         move ! (1 ∷ []) $ split ! $ move ! (1 ∷ []) $ split ! $ move ! (1 ∷ []) $ drop ! $
@@ -189,9 +191,9 @@ module _ {M : Type 1} (𝓤 : URA M) (H : Heap 𝓤) (A : Atoms 𝓤) (W : Given
       let e = ends (bytes .now) (replies .now) driver op (buffer .now) (log .now) d a stored logged g h in
       qed W (‵ (MutSlice (named 1) κ₁ u8 .own (lent-at buffer (buffer .name) stored) (slice buffer ∷ [])) ∷ ‵ (MutSlice (named 1) κ₂ u32 .own (lent-at log (log .name) logged) (slice log ∷ [])) ∷ ‵ (flft κ₀ q₀) ∷ ‵ (flft κ₁ q₁) ∷ ‵ (flft κ₂ q₂) ∷ ‵ (flft κ₃ q₃) ∷ []) ∵
       suffices ! _
-      (via 𝓤 _ (monoR 𝓤 (onExit 𝓤 H A this.ended stayed (κ₀, (κ₁, (κ₂, (κ₃, tt)))) (q₀, (q₁, (q₂, (q₃, tt)))) (DV driver ∷ [], (Types.op 𝓤 H A W .val op ∷ [], (slice bytes ∷ [], (slice buffer ∷ [], (slice log ∷ [], (slice replies ∷ [], tt)))))) (vstruct (vcons (DV d) (vcons (Types.answer 𝓤 H A W .val a) vnil))) (record { driver = d; answer = a }) (driver, (op, (bytes, (buffer, (log, (replies, tt)))))) (tt, (tt, (tt, (stored, (logged, (tt, tt))))))) (each-of-four 𝓤 _ _ _ _))
+      (via 𝓤 _ (monoR 𝓤 (onExit 𝓤 H A this.ended stayed (κ₀, (κ₁, (κ₂, (κ₃, tt)))) (q₀, (q₁, (q₂, (q₃, tt)))) (DV driver ∷ [], (Types.op 𝓤 H A W .val op ∷ [], (slice bytes ∷ [], (slice buffer ∷ [], (slice log ∷ [], (slice replies ∷ [], tt)))))) (vstruct (vcons (DV d) (vcons (Types.answer 𝓤 H A W .val a) vnil))) (record { driver = d; answer = a }) (driver, (op, (bytes, (buffer, (log, (replies, tt)))))) (tt, (tt, (tt, (stored, (logged, (tt, tt))))))) (each-of-five 𝓤 _ _ _ _ _))
       (ends-at 𝓤 H A this.ended stayed (this.clauses 𝓤 H A mem run) W (((κ₀, (κ₁, (κ₂, (κ₃, tt)))), (q₀, (q₁, (q₂, (q₃, tt)))), tt, (driver, (op, (bytes, (buffer, (log, (replies, tt)))))), (DV driver ∷ [], (Types.op 𝓤 H A W .val op ∷ [], (slice bytes ∷ [], (slice buffer ∷ [], (slice log ∷ [], (slice replies ∷ [], tt))))))), tt) (vstruct (vcons (DV d) (vcons (Types.answer 𝓤 H A W .val a) vnil))) (record { driver = d; answer = a }) (tt, (tt, (tt, (stored, (logged, (tt, tt)))))) (tt, (tt, (tt, (g .wide, (g .long, (tt, tt)))))))) $
-      says ! (ap (λ (x : Drive). x .driver) e, (ap (λ (x : Drive). x .answer) e, (ap (λ (x : Drive). x .buffer) e, ap (λ (x : Drive). x .log) e))) $
+      says ! (ap (λ (x : Drive). x .driver) e, (ap (λ (x : Drive). x .answer) e, (ap (λ (x : Drive). x .buffer) e, (ap (λ (x : Drive). x .log) e, all-of-it driver op (bytes .now) (buffer .now) (log .now) (replies .now) {r = record { driver = d; answer = a }} e)))) $
       nothing ! $ move ! (6 ∷ 0 ∷ []) $ join ! $ move ! (5 ∷ 0 ∷ []) $ join ! $ move ! (4 ∷ 0 ∷ []) $ join ! $ move ! (3 ∷ 0 ∷ []) $ join ! $ frame ! $ nothing ! $
       nothing ! $ fjoin ! $ move ! (2 ∷ 0 ∷ []) $ fjoin ! $ move ! (1 ∷ 0 ∷ []) $ fjoin ! $ nothing ! $ fjoin ! $ nothing ! $ fjoin ! $ nothing ! $ fjoin ! $ frame ! $
       owned ! Drivenᵀ.the-row (Is Drivenᵀ.the-row) (Types.driven 𝓤 H A W .makes) (record { driver = d; answer = a }) _ (Types.driven 𝓤 H A W .owes d a is-d is-a) $ done !

@@ -29,8 +29,8 @@ returns c =
     let x = w .before .args in
     let s = c .before .before .before .drive .ensures in
     let e = c .before .before .before .before .before .before .write-pages .ensures in (
-      saving.saves (x .addr) (now (x .«data»)) (now (x .replies)) (now (x .log)) (x .driver) e (s .0) (s .1 .0) (s .1 .1 .1) (omega (arith, w .before .good)) (λ i. omega (arith, w .shared-slice-known .given i)),
-      saving.untouched (x .addr) (now (x .«data»)) (now (x .replies)) (now (x .log)) (x .driver) e (s .0) (s .1 .0) (s .1 .1 .1),
+      saving.saves (x .addr) (now (x .«data»)) (now (x .replies)) (now (x .log)) (x .driver) e (s .0) (s .1 .0) (s .1 .1 .0) (s .1 .1 .1 .0) (λ i. omega (arith, w .shared-slice-known .given i)),
+      saving.untouched (x .addr) (now (x .«data»)) (now (x .replies)) (now (x .log)) (x .driver) e (s .0) (s .1 .0) (s .1 .1 .0) (s .1 .1 .1 .0),
     )
 
 pub write-pages-spec : {M : Type 1} → statement M

@@ -1,5 +1,6 @@
 -- Each branch is the definition's, by the tests taken on the way. Assumes nothing.
 use borrow.Author.Tests.{eq-eqb, ne-eqb}
+use Rattle.qspi_operation.proofs.Following.{with-due}
 use borrow.Author.Needs.{needs}
 use Rattle.qspi_operation.proofs.due.Statement.{statement}
 use Rattle.qspi_operation.proofs.due.Tie as tie
@@ -23,15 +24,15 @@ show-requires c κs = search needs
 
 -- src/lib.rt:136:1
 returns : tie.Need-returns
-returns c = simp (c .show .ensures, c .before .access .ensures, eq-eqb _ _ (c .before .before .if2 .taken), c .before .before .before .before .if1 .taken, ← c .before .before .before .before .before .is-going .ensures)
+returns c = with-due _ _ (simp (c .show .ensures, c .before .access .ensures, eq-eqb _ _ (c .before .before .if2 .taken), c .before .before .before .before .if1 .taken, ← c .before .before .before .before .before .is-going .ensures))
 
 -- src/lib.rt:136:1
 returns-2 : tie.Need-returns-2
-returns-2 c = simp (ne-eqb _ _ (c .if2 .left), c .before .before .if1 .taken, ← c .before .before .before .is-going .ensures)
+returns-2 c = with-due _ _ (simp (ne-eqb _ _ (c .if2 .left), c .before .before .if1 .taken, ← c .before .before .before .is-going .ensures))
 
 -- src/lib.rt:136:1
 returns-3 : tie.Need-returns-3
-returns-3 c = simp (c .if1 .left, ← c .before .is-going .ensures)
+returns-3 c = with-due _ _ (simp (c .if1 .left, ← c .before .is-going .ensures))
 
 pub due-spec : {M : Type 1} → statement M
 due-spec =

@@ -10,6 +10,7 @@ use Rattle.qspi_operation.specs.Run.{Run, runAt, fuel}
 use Rattle.qspi_operation.specs.Pass.{left}
 use Rattle.qspi_operation.proofs.Passes.{going-is, same-run, less-left}
 use Rattle.qspi_operation.proofs.Runs.{halted}
+use Rattle.qspi_operation.proofs.Following.{with-run}
 use Rattle.qspi_operation.proofs.run.Statement.{statement}
 use Rattle.qspi_operation.proofs.run.Tie as tie
 use Rattle.qspi_operation.proofs.run.Reads as reads
@@ -64,12 +65,12 @@ returns : tie.Need-returns Inv-loop μ-loop
 returns c =
     let l = c .before .before .loop in
     let e = l .inv .0 ∙ halted _ (isGoing (l .answer)) (l .answer) (l .o) _ _ (l .buffer) (l .log) (sym (c .before .is-going .ensures) ∙ c .if1 .left) in
-    record {
+    with-run _ _ _ _ _ (record {
       op = sym (ap (λ (r : Run). r .op) e);
       answer = sym (ap (λ (r : Run). r .answer) e);
       stored = sym (ap (λ (r : Run). r .buffer) e);
       logged = sym (ap (λ (r : Run). r .log) e);
-    }
+    })
 
 pub run-spec : {M : Type 1} → statement M
 run-spec =

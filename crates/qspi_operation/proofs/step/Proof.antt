@@ -1,7 +1,7 @@
 -- A reply is a list of one word, no reply an empty one. Assumes nothing.
 use denote.Ref.{now}
 use mathlib.Core.Path.{sym}
-use Rattle.qspi_operation.proofs.Verdicts.{replied}
+use Rattle.qspi_operation.proofs.Following.{with-reply}
 use borrow.Author.Needs.{needs}
 use Rattle.qspi_operation.proofs.step.Statement.{statement}
 use Rattle.qspi_operation.proofs.step.Tie as tie
@@ -45,7 +45,7 @@ same-length-2 c = search needs
 returns : tie.Need-returns
 returns c =
     let x = c .before .before .before .before .before .before .before .before .before .before .before .before .before .before .args in
-    replied (x .op) (now (x .«data»)) (now (x .buffer)) (now (x .log)) (sym (c .before .before .before .before .before .before .before .before .before .reply .given .1)) (c .before .before .before .before .step-at .ensures)
+    with-reply (x .op) (now (x .«data»)) (now (x .buffer)) (now (x .log)) (sym (c .before .before .before .before .before .before .before .before .before .reply .given .1)) (c .before .before .before .before .step-at .ensures)
 
 -- src/lib.rt:362:1
 same-length-3 : tie.Need-same-length-3
@@ -59,7 +59,7 @@ same-length-4 c = search needs
 returns-2 : tie.Need-returns-2
 returns-2 c =
     let x = c .before .before .before .before .before .before .before .before .before .before .before .before .before .args in
-    replied (x .op) (now (x .«data»)) (now (x .buffer)) (now (x .log)) (sym (c .before .before .before .before .before .before .before .before .enum-told .given .1)) (c .before .before .before .before .step-at2 .ensures)
+    with-reply (x .op) (now (x .«data»)) (now (x .buffer)) (now (x .log)) (sym (c .before .before .before .before .before .before .before .before .enum-told .given .1)) (c .before .before .before .before .step-at2 .ensures)
 
 pub step-spec : {M : Type 1} → statement M
 step-spec =

@@ -2,6 +2,7 @@
 use denote.Ref.{now}
 use mathlib.Core.Path.{sym, _∙_}
 use Rattle.qspi_operation.specs.Step.{replyOf}
+use Rattle.qspi_operation.proofs.Following.{with-follows}
 use Rattle.qspi_operation.proofs.Passes as passes
 use borrow.Author.Needs.{needs}
 use Rattle.qspi_operation.proofs.step_at.Statement.{statement}
@@ -41,13 +42,13 @@ same-length-2 c = search needs
 returns : tie.Need-returns
 returns c =
     let x = c .before .before .before .before .before .before .before .before .before .before .before .before .before .before .before .args in
-    passes.stepped (x .op) (now (x .«data»)) (now (x .buffer)) (now (x .log)) (replyOf (now (x .replies)) (x .at)) (passes.going-is _ (sym (c .before .before .before .before .before .before .before .before .before .before .is-going .ensures) ∙ c .before .before .before .before .before .before .before .before .before .if1 .taken)) (c .before .before .before .before .before .pass .result) (c .before .before .before .before .before .pass .ensures) (c .resolved .ensures)
+    with-follows (x .op) (now (x .«data»)) (now (x .buffer)) (now (x .log)) (replyOf (now (x .replies)) (x .at)) (passes.stepped (x .op) (now (x .«data»)) (now (x .buffer)) (now (x .log)) (replyOf (now (x .replies)) (x .at)) (passes.going-is _ (sym (c .before .before .before .before .before .before .before .before .before .before .is-going .ensures) ∙ c .before .before .before .before .before .before .before .before .before .if1 .taken)) (c .before .before .before .before .before .pass .result) (c .before .before .before .before .before .pass .ensures) (c .resolved .ensures))
 
 -- src/lib.rt:422:1
 returns-2 : tie.Need-returns-2
 returns-2 c =
     let x = c .before .before .before .before .before .before .args in
-    passes.ended (x .op) (now (x .«data»)) (now (x .buffer)) (now (x .log)) (replyOf (now (x .replies)) (x .at)) (sym (c .before .is-going .ensures) ∙ c .if1 .left)
+    with-follows (x .op) (now (x .«data»)) (now (x .buffer)) (now (x .log)) (replyOf (now (x .replies)) (x .at)) (passes.ended (x .op) (now (x .«data»)) (now (x .buffer)) (now (x .log)) (replyOf (now (x .replies)) (x .at)) (sym (c .before .is-going .ensures) ∙ c .if1 .left))
 
 pub step-at-spec : {M : Type 1} → statement M
 step-at-spec =

@@ -1,6 +1,6 @@
--- What the run promises, but for the buffer. Assumes nothing.
+-- What the run promises; an empty buffer stays empty. Assumes nothing.
 use borrow.Author.Needs.{needs}
-use Rattle.qspi_calls.proofs.Promised.{without-buffer}
+use Rattle.qspi_calls.proofs.Promised.{commanded}
 use Rattle.qspi_calls.proofs.run.command.Statement.{statement}
 use Rattle.qspi_calls.proofs.run.command.Tie as tie
 
@@ -17,7 +17,7 @@ same-length : tie.Need-same-length
 same-length c = search needs
 
 returns : tie.Need-returns
-returns c = without-buffer (c .before .before .before .run .ensures)
+returns c = commanded _ _ _ (c .before .before .before .run .ensures)
 
 pub command-spec : {M : Type 1} → statement M
 command-spec =

@@ -1,4 +1,6 @@
 -- What the callee promises. Assumes nothing.
+use native.Mathlib.Omega.{arith}
+use Rattle.qspi_calls.proofs.Begins as begins
 use borrow.Author.Needs.{needs}
 use Rattle.qspi_calls.proofs.start.disable.Statement.{statement}
 use Rattle.qspi_calls.proofs.start.disable.Tie as tie
@@ -7,7 +9,7 @@ registers-requires : tie.Need-registers-requires
 registers-requires c κs = search needs
 
 returns : tie.Need-returns
-returns c = c .registers .ensures
+returns c = begins.disable _ (omega (arith, c .before .good)) (c .registers .ensures)
 
 pub disable-spec : {M : Type 1} → statement M
 disable-spec = tie.close (tie.spec registers-requires returns)

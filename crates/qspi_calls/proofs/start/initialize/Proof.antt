@@ -1,5 +1,7 @@
 -- The words are those that the clock configuration promises. Assumes nothing.
 use Rattle.qspi_calls.proofs.StartLaws.{worded, too-wide}
+use native.Mathlib.Omega.{arith}
+use Rattle.qspi_calls.proofs.Begins as begins
 use borrow.Author.Needs.{needs}
 use Rattle.qspi_calls.proofs.start.initialize.Statement.{statement}
 use Rattle.qspi_calls.proofs.start.initialize.Tie as tie
@@ -44,13 +46,13 @@ returns : tie.Need-returns
 returns c =
     let x = c .before .before .before .before .before .before .args in
     let y = worded (x .clock-config) (x .phase) (x .polarity) (c .before .before .before .before .initialize-words .ensures) (c .before .before .words .given .1) in
-    simp (c .registers .ensures, y .narrow, y .config, c .before .before .before .before .before .sequence-of .ensures)
+    begins.initialize (c .before .before .before .before .before .before .args .clock-config) (c .before .before .before .before .before .before .args .phase) (c .before .before .before .before .before .before .args .polarity) _ (omega (arith, c .before .before .before .before .before .before .good)) (simp (c .registers .ensures, y .narrow, y .config, y .clock, c .before .before .before .before .before .sequence-of .ensures))
 
 -- src/start.rt:487:1
 returns-2 : tie.Need-returns-2
 returns-2 c =
     let x = c .before .before .before .before .before .before .args in
-    simp (c .over .ensures, c .before .registers-job .ensures, too-wide (x .clock-config) (x .phase) (x .polarity) (c .before .before .before .before .initialize-words .ensures) (c .before .before .enum-told .given .1))
+    begins.initialize (c .before .before .before .before .before .before .args .clock-config) (c .before .before .before .before .before .before .args .phase) (c .before .before .before .before .before .before .args .polarity) _ (omega (arith, c .before .before .before .before .before .before .good)) (simp (c .over .ensures, c .before .registers-job .ensures, too-wide (x .clock-config) (x .phase) (x .polarity) (c .before .before .before .before .initialize-words .ensures) (c .before .before .enum-told .given .1)))
 
 pub initialize-spec : {M : Type 1} → statement M
 initialize-spec =

@@ -8,8 +8,13 @@ use Rattle.qspi_calls.proofs.start.read.Lts as lts
 use Rattle.qspi_calls.proofs.start.going.Reads as going-reads
 use Rattle.qspi_calls.proofs.start.over.Reads as over-reads
 use Rattle.qspi_calls.proofs.start.place.Reads as place-reads
+use Rattle.qspi_calls.proofs.start.plain.Reads as plain-reads
 use Rattle.qspi_calls.proofs.start.spans_too_far.Reads as spans-too-far-reads
 use Rattle.qspi_script.proofs.next_chunk.Reads as next-chunk-reads
+
+-- src/start.rt:62:1
+plain-requires : tie.Need-plain-requires
+plain-requires c κs = search needs
 
 -- src/start.rt:419:9
 next-chunk-requires : tie.Need-next-chunk-requires
@@ -25,7 +30,7 @@ over-requires c κs = search needs
 
 -- src/start.rt:421:9
 returns : tie.Need-returns
-returns c = simp (c .over .ensures, c .before .if1 .taken, ← c .before .before .spans-too-far .ensures, c .before .before .before .next-chunk .ensures)
+returns c = simp (c .over .ensures, c .before .if1 .taken, ← c .before .before .spans-too-far .ensures, c .before .before .before .next-chunk .ensures, c .before .before .before .before .plain .ensures)
 
 -- src/start.rt:424:9
 over-requires-2 : tie.Need-over-requires-2
@@ -33,7 +38,7 @@ over-requires-2 c κs = search needs
 
 -- src/start.rt:424:9
 returns-2 : tie.Need-returns-2
-returns-2 c = simp (c .over2 .ensures, eq-eqb _ _ (c .before .if2 .taken), c .before .before .if1 .left, ← c .before .before .before .spans-too-far .ensures, c .before .before .before .before .next-chunk .ensures)
+returns-2 c = simp (c .over2 .ensures, eq-eqb _ _ (c .before .if2 .taken), c .before .before .if1 .left, ← c .before .before .before .spans-too-far .ensures, c .before .before .before .before .next-chunk .ensures, c .before .before .before .before .before .plain .ensures)
 
 -- src/start.rt:426:16
 place-requires : tie.Need-place-requires
@@ -45,12 +50,13 @@ going-requires c κs = search needs
 
 -- src/start.rt:402:1
 returns-3 : tie.Need-returns-3
-returns-3 c = simp (c .going .ensures, c .before .place .ensures, ne-eqb _ _ (c .before .before .if2 .left), c .before .before .before .if1 .left, ← c .before .before .before .before .spans-too-far .ensures, c .before .before .before .before .before .next-chunk .ensures)
+returns-3 c = simp (c .going .ensures, c .before .place .ensures, ne-eqb _ _ (c .before .before .if2 .left), c .before .before .before .if1 .left, ← c .before .before .before .before .spans-too-far .ensures, c .before .before .before .before .before .next-chunk .ensures, c .before .before .before .before .before .before .plain .ensures)
 
 pub read-spec : {M : Type 1} → statement M
 read-spec =
     tie.close
     (tie.spec
+    plain-requires
     next-chunk-requires
     spans-too-far-requires
     over-requires

@@ -1,4 +1,6 @@
 -- What the callee promises. Assumes nothing.
+use native.Mathlib.Omega.{arith}
+use Rattle.qspi_calls.proofs.Begins as begins
 use borrow.Author.Needs.{needs}
 use Rattle.qspi_calls.proofs.start.read_fast_read.Statement.{statement}
 use Rattle.qspi_calls.proofs.start.read_fast_read.Tie as tie
@@ -7,7 +9,7 @@ read-requires : tie.Need-read-requires
 read-requires c κs = search needs
 
 returns : tie.Need-returns
-returns c = c .read .ensures
+returns c = begins.read-fast-read _ _ _ _ (omega (arith, c .before .good)) (c .read .ensures)
 
 pub read-fast-read-spec : {M : Type 1} → statement M
 read-fast-read-spec = tie.close (tie.spec read-requires returns)

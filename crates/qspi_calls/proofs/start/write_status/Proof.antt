@@ -1,5 +1,7 @@
 -- By what the functions called promise, and the tests taken on the way. Assumes nothing.
 use borrow.Author.Tests.{lt-ltb, le-ltb, le-leb, lt-leb, eq-eqb, ne-eqb}
+use native.Mathlib.Omega.{arith}
+use Rattle.qspi_calls.proofs.Begins as begins
 use borrow.Author.Needs.{needs}
 use Rattle.qspi_calls.proofs.start.write_status.Statement.{statement}
 use Rattle.qspi_calls.proofs.start.write_status.Tie as tie
@@ -28,7 +30,7 @@ going-requires c κs = search needs
 
 -- src/start.rt:189:1
 returns : tie.Need-returns
-returns c = simp (c .going .ensures, c .before .place .ensures, c .before .before .command .ensures, c .before .before .before .enabled .ensures)
+returns c = begins.write-status _ _ (omega (arith, c .before .before .before .before .good)) (simp (c .going .ensures, c .before .place .ensures, c .before .before .command .ensures, c .before .before .before .enabled .ensures))
 
 pub write-status-spec : {M : Type 1} → statement M
 write-status-spec =

@@ -13,7 +13,7 @@ read-page-read-requires c κs = search needs
 
 -- src/lib.rt:26:5
 returns : tie.Need-returns
-returns c = ap (λ (o : Op). driverOf (holds o)) (c .read-page-read .ensures)
+returns c = ap (λ (o : Op). driverOf (holds o)) (c .read-page-read .ensures .0)
 
 pub idle-spec : {M : Type 1} → statement M
 idle-spec = tie.close (tie.spec read-page-read-requires returns)

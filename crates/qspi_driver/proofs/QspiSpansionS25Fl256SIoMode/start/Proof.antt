@@ -38,7 +38,8 @@ use Rattle.qspi_driver.proofs.state.Answer as Answerᵀ
 use Rattle.qspi_operation.specs.declared.Op.{Op}
 use Rattle.qspi_operation.proofs.Op as Opᵀ
 use Rattle.qspi_driver.proofs.Types as Types
-use Rattle.hand_walks.proofs.Clauses.{each-of-two}
+use Rattle.hand_walks.proofs.Clauses.{each-of-three}
+use Rattle.qspi_driver.specs.Promise.{Started}
 use Rattle.qspi_driver.proofs.ThinStart as thin
 use Rattle.qspi_driver.proofs.state.begin as callee
 use Rattle.qspi_driver.proofs.state.begin.Symbol as callee-def
@@ -81,7 +82,7 @@ module _ {M : Type 1} (𝓤 : URA M) (H : Heap 𝓤) (A : Atoms 𝓤) (W : Given
 
   -- what the callee ensures
   abbrev Said : Acted → Type 0
-  Said r = r ≡ begunOf (h .state) op
+  Said r = (r ≡ begunOf (h .state) op) × Started (h .state .op) op (r .answer) (r .state .op)
 
   abbrev Ens : Acted → SProp 𝓤
   Ens r = ensured 𝓤 H A callee.ended (callee.clauses 𝓤 H A at-mem run) tt (h .state, (op, tt)) tt r
@@ -93,9 +94,9 @@ module _ {M : Type 1} (𝓤 : URA M) (H : Heap 𝓤) (A : Atoms 𝓤) (W : Given
   exits r is e =
       qed W (‵ (fobs γ (Driverᵀ.the-row .coded .code (record { state = r .state }))) ∷ ‵ (fbor κ₀ (Body (mem Driverᵀ.the-row) b o γ)) ∷ ‵ (flft κ₀ q₀) ∷ (‵ ftrue) ∷ []) ∵
       suffices ! _
-      (via 𝓤 _ (monoR 𝓤 (onExit 𝓤 H A this.ended stayed (κ₀, tt) (q₀, tt) vals (Types.answer 𝓤 H A W .val (r .answer)) (r .answer) a (record { state = r .state }, (tt, tt))) (each-of-two 𝓤 _ _))
+      (via 𝓤 _ (monoR 𝓤 (onExit 𝓤 H A this.ended stayed (κ₀, tt) (q₀, tt) vals (Types.answer 𝓤 H A W .val (r .answer)) (r .answer) a (record { state = r .state }, (tt, tt))) (each-of-three 𝓤 _ _ _))
       (ends-at 𝓤 H A this.ended stayed (this.clauses 𝓤 H A at-mem run) W (((κ₀, tt), (q₀, tt), tt, a, vals), tt) (Types.answer 𝓤 H A W .val (r .answer)) (r .answer) (record { state = r .state }, (tt, tt)) (tt, (tt, tt)))) $
-      says ! (ap (λ (y : Acted). driverOf (y .state)) e, ap (λ (y : Acted). y .answer) e) $
+      says ! (ap (λ (y : Acted). driverOf (y .state)) (e .0), (ap (λ (y : Acted). y .answer) (e .0), e .1)) $
       move ! (2 ∷ 3 ∷ []) $ join ! $ frame ! $ feqI ! (List Val) (vptr b o ∷ []) (vptr b o ∷ []) refl $ fjoin3 ! $ nothing ! $ nothing ! $ fjoin ! $ move ! (1 ∷ 0 ∷ []) $
       fjoin ! $ frame ! $ owned ! Answerᵀ.the-row (Is Answerᵀ.the-row) (Types.answer 𝓤 H A W .makes) (r .answer) _ is $ done !
 

@@ -43,7 +43,8 @@ use Rattle.qspi_operation.specs.declared.Reply.{Reply}
 use Rattle.qspi_operation.proofs.Reply as Replyᵀ
 use Rattle.hand_walks.proofs.Known.{slice}
 use Rattle.qspi_driver.proofs.Types as Types
-use Rattle.hand_walks.proofs.Clauses.{each-of-four}
+use Rattle.hand_walks.proofs.Clauses.{each-of-five}
+use Rattle.qspi_driver.specs.Promise.{Steps}
 use Rattle.qspi_driver.proofs.ThinStep as thin
 use Rattle.qspi_driver.proofs.state.step as callee
 use Rattle.qspi_driver.proofs.state.step.Symbol as callee-def
@@ -86,28 +87,28 @@ module _ {M : Type 1} (𝓤 : URA M) (H : Heap 𝓤) (A : Atoms 𝓤) (W : Given
 
   -- what the callee ensures
   abbrev Said : Acted → List ℕ → List ℕ → Type 0
-  Said r buffer′ log′ = (r ≡ steppedOf (h .state) (bytes .now) (length (buffer .now)) (length (log .now)) reply) × (buffer′ ≡ bufferOf (h .state .op) (bytes .now) (buffer .now) (length (log .now)) reply) × (log′ ≡ logOf (h .state .op) (bytes .now) (length (buffer .now)) (log .now) reply) × (length buffer′ ≡ length (buffer .now)) × (length log′ ≡ length (log .now))
+  Said r buffer′ log′ = (r ≡ steppedOf (h .state) (bytes .now) (length (buffer .now)) (length (log .now)) reply) × (buffer′ ≡ bufferOf (h .state .op) (bytes .now) (buffer .now) (length (log .now)) reply) × (log′ ≡ logOf (h .state .op) (bytes .now) (length (buffer .now)) (log .now) reply) × Steps (h .state .op) (bytes .now) (buffer .now) (log .now) reply (r .answer) (r .state .op) buffer′ log′ × (length buffer′ ≡ length (buffer .now)) × (length log′ ≡ length (log .now))
 
   abbrev Ens : Acted → SProp 𝓤
   Ens r = ensured 𝓤 H A callee.ended (callee.clauses 𝓤 H A at-mem run) (κ₁, (κ₂, (κ₃, tt))) (h .state, (bytes, (buffer, (log, (reply, tt))))) tt r
 
   hears : (r : Acted) → ent 𝓤 (Ens r) (ex 𝓤 (λ (y : List ℕ × (List ℕ × Unit {0})). sep 𝓤 (sep 𝓤 (sem 𝓤 H A (finally u8 (buffer .name) (y .0))) (sem 𝓤 H A (finally u32 (log .name) (y .1 .0)))) (fact 𝓤 (Said r (y .0) (y .1 .0)))))
   hears r =
-      qed W (raw (ensured 𝓤 H A callee.ended (callee.clauses 𝓤 H A at-mem run) (κ₁, (κ₂, (κ₃, tt))) (h .state, (bytes, (buffer, (log, (reply, tt))))) tt r) ∷ []) ∵ use1 W (some (λ (z : Unit {0} × (Unit {0} × (List ℕ × (List ℕ × (Unit {0} × Unit {0}))))). ‵ (lasts callee.ended (κ₁, (κ₂, (κ₃, tt))) (h .state, (bytes, (buffer, (log, (reply, tt))))) z) ⊛ raw (fact 𝓤 ((r ≡ steppedOf (h .state) (bytes .now) (length (buffer .now)) (length (log .now)) reply) × ((z .1 .1 .0) ≡ bufferOf (h .state .op) (bytes .now) (buffer .now) (length (log .now)) reply) × ((z .1 .1 .1 .0) ≡ logOf (h .state .op) (bytes .now) (length (buffer .now)) (log .now) reply))))) (id⊢ 𝓤 _) $
+      qed W (raw (ensured 𝓤 H A callee.ended (callee.clauses 𝓤 H A at-mem run) (κ₁, (κ₂, (κ₃, tt))) (h .state, (bytes, (buffer, (log, (reply, tt))))) tt r) ∷ []) ∵ use1 W (some (λ (z : Unit {0} × (Unit {0} × (List ℕ × (List ℕ × (Unit {0} × Unit {0}))))). ‵ (lasts callee.ended (κ₁, (κ₂, (κ₃, tt))) (h .state, (bytes, (buffer, (log, (reply, tt))))) z) ⊛ raw (fact 𝓤 ((r ≡ steppedOf (h .state) (bytes .now) (length (buffer .now)) (length (log .now)) reply) × ((z .1 .1 .0) ≡ bufferOf (h .state .op) (bytes .now) (buffer .now) (length (log .now)) reply) × ((z .1 .1 .1 .0) ≡ logOf (h .state .op) (bytes .now) (length (buffer .now)) (log .now) reply) × Steps (h .state .op) (bytes .now) (buffer .now) (log .now) reply (r .answer) (r .state .op) (z .1 .1 .0) (z .1 .1 .1 .0))))) (id⊢ 𝓤 _) $
       pick ! (λ z. split ! $ move ! (1 ∷ []) $
-      heard ! ((r ≡ steppedOf (h .state) (bytes .now) (length (buffer .now)) (length (log .now)) reply) × ((z .1 .1 .0) ≡ bufferOf (h .state .op) (bytes .now) (buffer .now) (length (log .now)) reply) × ((z .1 .1 .1 .0) ≡ logOf (h .state .op) (bytes .now) (length (buffer .now)) (log .now) reply)) (λ e. fsplit ! $
+      heard ! ((r ≡ steppedOf (h .state) (bytes .now) (length (buffer .now)) (length (log .now)) reply) × ((z .1 .1 .0) ≡ bufferOf (h .state .op) (bytes .now) (buffer .now) (length (log .now)) reply) × ((z .1 .1 .1 .0) ≡ logOf (h .state .op) (bytes .now) (length (buffer .now)) (log .now) reply) × Steps (h .state .op) (bytes .now) (buffer .now) (log .now) reply (r .answer) (r .state .op) (z .1 .1 .0) (z .1 .1 .1 .0)) (λ e. fsplit ! $
       drop ! $ fsplit ! $ drop ! $ fsplit ! $ fsplit ! $ move ! (1 ∷ []) $ feqL ! (λ same-buffer. move ! (1 ∷ []) $ fsplit ! $ fsplit ! $ move ! (1 ∷ []) $
       feqL ! (λ same-log. move ! (1 ∷ []) $ fsplit ! $ drop ! $ drop ! $ move ! (1 ∷ 0 ∷ []) $
       show ! (λ (y : List ℕ × (List ℕ × Unit {0})). sep 𝓤 (sep 𝓤 (sem 𝓤 H A (finally u8 (buffer .name) (y .0))) (sem 𝓤 H A (finally u32 (log .name) (y .1 .0)))) (fact 𝓤 (Said r (y .0) (y .1 .0)))) (z .1 .1 .0, (z .1 .1 .1 .0, tt)) $
-      says ! (e .0, e .1, e .2, same-buffer, same-log) $ frame ! $ done !))))
+      says ! (e .0, e .1, e .2, e .3, same-buffer, same-log) $ frame ! $ done !))))
 
   exits : (r : Acted) (buffer′ : List ℕ) (log′ : List ℕ) → Is Answerᵀ.the-row (r .answer) (Types.answer 𝓤 H A W .val (r .answer) ∷ []) → Said r buffer′ log′ → ent 𝓤 (thin.Left (Types.state 𝓤 H A W) (Types.answer 𝓤 H A W) (Types.reply 𝓤 H A W) (Types.driver 𝓤 H A W) (Types.acted 𝓤 H A W) W #callee κ₀ κ₁ κ₂ κ₃ q₀ q₁ q₂ q₃ b o γ h bytes buffer log reply r buffer′ log′) (Post (Types.answer 𝓤 H A W .val (r .answer)))
   exits r buffer′ log′ is e =
       qed W (‵ (fobs γ (Driverᵀ.the-row .coded .code (record { state = r .state }))) ∷ ‵ (fbor κ₀ (Body (mem Driverᵀ.the-row) b o γ)) ∷ ‵ (flft κ₀ q₀) ∷ (‵ (flft κ₁ q₁) ⊛ ‵ (flft κ₂ q₂) ⊛ ‵ (flft κ₃ q₃) ⊛ ‵ ftrue) ∷ ‵ (finally u8 (buffer .name) buffer′) ∷ ‵ (finally u32 (log .name) log′) ∷ []) ∵
       suffices ! _
-      (via 𝓤 _ (monoR 𝓤 (onExit 𝓤 H A this.ended stayed (κ₀, (κ₁, (κ₂, (κ₃, tt)))) (q₀, (q₁, (q₂, (q₃, tt)))) vals (Types.answer 𝓤 H A W .val (r .answer)) (r .answer) a (record { state = r .state }, (tt, (buffer′, (log′, (tt, tt)))))) (each-of-four 𝓤 _ _ _ _))
-      (ends-at 𝓤 H A this.ended stayed (this.clauses 𝓤 H A at-mem run) W (((κ₀, (κ₁, (κ₂, (κ₃, tt)))), (q₀, (q₁, (q₂, (q₃, tt)))), tt, a, vals), tt) (Types.answer 𝓤 H A W .val (r .answer)) (r .answer) (record { state = r .state }, (tt, (buffer′, (log′, (tt, tt))))) (tt, (tt, (e .3, (e .4, (tt, tt))))))) $
-      says ! (ap (λ (y : Acted). driverOf (y .state)) (e .0), (ap (λ (y : Acted). y .answer) (e .0), (e .1, e .2))) $
+      (via 𝓤 _ (monoR 𝓤 (onExit 𝓤 H A this.ended stayed (κ₀, (κ₁, (κ₂, (κ₃, tt)))) (q₀, (q₁, (q₂, (q₃, tt)))) vals (Types.answer 𝓤 H A W .val (r .answer)) (r .answer) a (record { state = r .state }, (tt, (buffer′, (log′, (tt, tt)))))) (each-of-five 𝓤 _ _ _ _ _))
+      (ends-at 𝓤 H A this.ended stayed (this.clauses 𝓤 H A at-mem run) W (((κ₀, (κ₁, (κ₂, (κ₃, tt)))), (q₀, (q₁, (q₂, (q₃, tt)))), tt, a, vals), tt) (Types.answer 𝓤 H A W .val (r .answer)) (r .answer) (record { state = r .state }, (tt, (buffer′, (log′, (tt, tt))))) (tt, (tt, (e .4, (e .5, (tt, tt))))))) $
+      says ! (ap (λ (y : Acted). driverOf (y .state)) (e .0), (ap (λ (y : Acted). y .answer) (e .0), (e .1, (e .2, e .3)))) $
       move ! (2 ∷ 3 ∷ []) $ join ! $ frame ! $ feqI ! (List Val) (vptr b o ∷ []) (vptr b o ∷ []) refl $ fjoin3 ! $ nothing ! $ nothing ! $ fjoin ! $ move ! (3 ∷ 0 ∷ []) $
       fjoin ! $ move ! (2 ∷ 0 ∷ []) $ fjoin ! $ nothing ! $ fjoin ! $ move ! (1 ∷ 0 ∷ []) $ fjoin ! $ frame ! $
       owned ! Answerᵀ.the-row (Is Answerᵀ.the-row) (Types.answer 𝓤 H A W .makes) (r .answer) _ is $ done !

@@ -1,4 +1,5 @@
 -- Each field is copied or is what its callee says. Assumes nothing.
+use Rattle.qspi_driver.proofs.Promised.{answers}
 use borrow.Author.Needs.{needs}
 use Rattle.qspi_driver.proofs.state.answer_so_far.Statement.{statement}
 use Rattle.qspi_driver.proofs.state.answer_so_far.Tie as tie
@@ -6,6 +7,9 @@ use Rattle.qspi_driver.proofs.state.answer_so_far.Tie as tie
 -- src/state.rt:112:21
 programmed-requires : tie.Need-programmed-requires
 programmed-requires c κs = search needs
+
+given-requires : tie.Need-given-requires
+given-requires c κs = search needs
 
 -- src/state.rt:113:16
 kept-requires : tie.Need-kept-requires
@@ -21,8 +25,8 @@ kept-requires-3 c κs = search needs
 
 -- src/state.rt:102:1
 returns : tie.Need-returns
-returns c = rw (c .before .before .before .programmed .ensures, c .before .before .kept .ensures, c .before .kept2 .ensures, c .kept3 .ensures)
+returns c = answers _ (rw (c .before .before .before .before .programmed .ensures, c .before .before .before .given .ensures, c .before .before .kept .ensures, c .before .kept2 .ensures, c .kept3 .ensures))
 
 pub answer-so-far-spec : {M : Type 1} → statement M
 answer-so-far-spec =
-    tie.close (tie.spec programmed-requires kept-requires kept-requires-2 kept-requires-3 returns)
+    tie.close (tie.spec programmed-requires given-requires kept-requires kept-requires-2 kept-requires-3 returns)

@@ -2,6 +2,7 @@
 use mathlib.Core.Path.{sym, ap, _∙_}
 use mathlib.Core.Bool.{Bool}
 use Rattle.qspi_driver.specs.State.{begunIf}
+use Rattle.qspi_driver.proofs.Promised.{started}
 use borrow.Author.Needs.{needs}
 use Rattle.qspi_driver.proofs.state.begin.Statement.{statement}
 use Rattle.qspi_driver.proofs.state.begin.Tie as tie
@@ -14,13 +15,13 @@ is-going-requires c κs = search needs
 returns : tie.Need-returns
 returns c =
     let x = c .before .before .before .args in
-    ap (λ (b : Bool). begunIf b (x .state) (x .op)) (sym (sym (c .before .is-going .ensures) ∙ c .if1 .taken))
+    started (x .state) (x .op) (ap (λ (b : Bool). begunIf b (x .state) (x .op)) (sym (sym (c .before .is-going .ensures) ∙ c .if1 .taken)))
 
 -- src/state.rt:75:1
 returns-2 : tie.Need-returns-2
 returns-2 c =
     let x = c .before .before .before .args in
-    ap (λ (b : Bool). begunIf b (x .state) (x .op)) (sym (sym (c .before .is-going .ensures) ∙ c .if1 .left))
+    started (x .state) (x .op) (ap (λ (b : Bool). begunIf b (x .state) (x .op)) (sym (sym (c .before .is-going .ensures) ∙ c .if1 .left)))
 
 pub begin-spec : {M : Type 1} → statement M
 begin-spec = tie.close (tie.spec is-going-requires returns returns-2)

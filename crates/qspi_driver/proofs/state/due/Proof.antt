@@ -7,7 +7,7 @@ due-requires : tie.Need-due-requires
 due-requires c κs = search needs
 
 returns : tie.Need-returns
-returns c = search needs
+returns c = c .due .ensures
 
 pub due-spec : {M : Type 1} → statement M
 due-spec = tie.close (tie.spec due-requires returns)

@@ -1,6 +1,7 @@
 -- The step of the operation at hand. Assumes nothing.
 use mathlib.Core.Path.{ap, _∙_}
 use Rattle.qspi_driver.specs.State.{actedBy}
+use Rattle.qspi_driver.proofs.Promised.{steps}
 use borrow.Author.Needs.{needs}
 use Rattle.qspi_driver.proofs.state.step.Statement.{statement}
 use Rattle.qspi_driver.proofs.state.step.Tie as tie
@@ -23,7 +24,10 @@ same-length-2 c = search needs
 
 -- src/state.rt:132:1
 returns : tie.Need-returns
-returns c = let s = c .before .before .before .before .before .step .ensures in (c .holding .ensures ∙ ap actedBy (s .0), s .1 .1, s .1 .0)
+returns c =
+    let s = c .before .before .before .before .before .step .ensures in
+    let e = c .holding .ensures ∙ ap actedBy (s .0) in
+    (e, s .1 .1 .0, s .1 .0, steps _ _ _ _ _ e (s .1 .1 .0) (s .1 .0))
 
 pub step-spec : {M : Type 1} → statement M
 step-spec = tie.close (tie.spec step-requires holding-requires same-length same-length-2 returns)

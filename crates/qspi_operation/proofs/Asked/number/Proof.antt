@@ -1,4 +1,4 @@
--- The search closes each need. Assumes nothing.
+-- Each case has its number. Assumes nothing.
 use borrow.Author.Needs.{needs}
 use Rattle.qspi_operation.proofs.Asked.number.Statement.{statement}
 use Rattle.qspi_operation.proofs.Asked.number.Tie as tie
@@ -16,16 +16,16 @@ enum-told-4 : tie.Need-enum-told-4
 enum-told-4 c = search needs
 
 returns : tie.Need-returns
-returns c = search needs
+returns c = simp (c .enum-told .given .1)
 
 returns-2 : tie.Need-returns-2
-returns-2 c = search needs
+returns-2 c = simp (c .enum-told2 .given .1)
 
 returns-3 : tie.Need-returns-3
-returns-3 c = search needs
+returns-3 c = simp (c .enum-told3 .given .1)
 
 returns-4 : tie.Need-returns-4
-returns-4 c = search needs
+returns-4 c = simp (c .enum-told4 .given .1)
 
 pub number-spec : {M : Type 1} → statement M
 number-spec =

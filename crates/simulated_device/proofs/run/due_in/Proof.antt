@@ -31,7 +31,7 @@ returns-3 c =
       sym (c .before .before .before .before .same-lengths .ensures) ∙ not-false _ (c .before .before .before .if1 .left),
       le-ltb _ _ (subst (λ (x : ℕ). 2 ≤ x) (c .before .before .room .ensures) (c .before .if2 .left)),
     )
-    (c .due .ensures)
+    (c .due .ensures .0)
 
 pub due-in-spec : {M : Type 1} → statement M
 due-in-spec = tie.close (tie.spec same-lengths-requires returns room-requires returns-2 due-requires returns-3)

@@ -8,7 +8,7 @@ use denote.Ref.{now}
 use lib.ListN.{length}
 use Rattle.qspi_operation.specs.Step.{isGoing}
 use Rattle.simulated_device.specs.Running.{Turn, ranOf, turns}
-use Rattle.simulated_device.proofs.Turns.{turnFrom, is-turn, met-turn, refused-turn, turn-more, turn-last, turn-over, no-turn, runs}
+use Rattle.simulated_device.proofs.Turns.{turnFrom, is-turn, met-turn, refused-turn, turn-more, turn-last, turn-over, no-turn, runs, by-counters}
 use Rattle.simulated_device.proofs.run.run.Statement.{statement}
 use Rattle.simulated_device.proofs.run.run.Tie as tie
 
@@ -77,7 +77,7 @@ loop-again c =
     let l = c .before .before .before .before .before .before .before .before .before .before .before .before .before .before .before .before .before .before .before .before .before .before .before .before .before .loop in
     let t = looped (c .before .before .before .before .before .before .before .before .before .before .before .before .before .before .before .before .before .before .before .before .before .before .before .before .before) in
     let g : isGoing (l .answer) ≡ true = sym (c .before .before .before .before .before .before .before .before .before .before .before .before .before .before .before .before .before .before .before .before .before .before .before .before .is-going .ensures) ∙ c .before .before .before .before .before .before .before .before .before .before .before .before .before .before .before .before .before .before .before .before .before .before .before .if1 .taken in
-    let e = met-turn (x .replies) (now (x .«data»)) t (c .before .before .before .before .before .before .before .before .before .before .before .before .before .before .before .before .before .before .before .before .before .before .due-in .ensures) refl (c .before .before .before .before .before .before .before .before .before .before .before .before .before .before .before .before .before .meet .ensures) (c .before .before .before .before .before .before .before .before .before .if2 .left) (c .before .before .before .before .before .before .step .ensures) in
+    let e = met-turn (x .replies) (now (x .«data»)) t (c .before .before .before .before .before .before .before .before .before .before .before .before .before .before .before .before .before .before .before .before .before .before .due-in .ensures) refl (c .before .before .before .before .before .before .before .before .before .before .before .before .before .before .before .before .before .meet .ensures) (c .before .before .before .before .before .before .before .before .before .if2 .left) (by-counters (c .before .before .before .before .before .before .step .ensures)) in
     (l .inv .0 ∙ turn-more (x .replies) (now (x .«data»)) (l .left) t g e (c .if3 .left), (c .before .before .before .before .before .buffer .given ∙ l .inv .1 .0, (c .before .before .before .log .given ∙ l .inv .1 .1 .0, (c .before .before .before .before .before .before .before .before .before .before .before .before .before .before .before .before .sent .given ∙ l .inv .1 .1 .1 .0, (c .before .before .before .before .before .before .before .before .before .before .before .before .before .before .received .given ∙ l .inv .1 .1 .1 .1 .0, (c .before .before .before .before .before .before .before .before .before .before .before .before .array .given ∙ l .inv .1 .1 .1 .1 .1))))))
 
 same-length-6 : tie.Need-same-length-6 Inv-loop μ-loop
@@ -123,7 +123,7 @@ returns-3 c =
     let l = c .before .before .before .before .before .before .before .before .before .before .before .before .before .before .before .before .before .before .before .before .before .before .before .before .before .loop in
     let t = looped (c .before .before .before .before .before .before .before .before .before .before .before .before .before .before .before .before .before .before .before .before .before .before .before .before .before) in
     let g : isGoing (l .answer) ≡ true = sym (c .before .before .before .before .before .before .before .before .before .before .before .before .before .before .before .before .before .before .before .before .before .before .before .before .is-going .ensures) ∙ c .before .before .before .before .before .before .before .before .before .before .before .before .before .before .before .before .before .before .before .before .before .before .before .if1 .taken in
-    let e = met-turn (x .replies) (now (x .«data»)) t (c .before .before .before .before .before .before .before .before .before .before .before .before .before .before .before .before .before .before .before .before .before .before .due-in .ensures) refl (c .before .before .before .before .before .before .before .before .before .before .before .before .before .before .before .before .before .meet .ensures) (c .before .before .before .before .before .before .before .before .before .if2 .left) (c .before .before .before .before .before .before .step .ensures) in
+    let e = met-turn (x .replies) (now (x .«data»)) t (c .before .before .before .before .before .before .before .before .before .before .before .before .before .before .before .before .before .before .before .before .before .before .due-in .ensures) refl (c .before .before .before .before .before .before .before .before .before .before .before .before .before .before .before .before .before .meet .ensures) (c .before .before .before .before .before .before .before .before .before .if2 .left) (by-counters (c .before .before .before .before .before .before .step .ensures)) in
     is-turn _ _ _ _ _ _ (runs (x .replies) (now (x .«data»)) _ ∙ (l .inv .0 ∙ turn-last (x .replies) (now (x .«data»)) (l .left) t g e (c .if3 .taken)))
 
 pub run-spec : {M : Type 1} → statement M

@@ -8,8 +8,8 @@ enum-known-self : tie.Need-enum-known-self
 enum-known-self c = search needs
 
 -- src/state.rt:43:49
-number-of-requires : tie.Need-number-of-requires
-number-of-requires c κs = search needs
+number-requires : tie.Need-number-requires
+number-requires c κs = search needs
 
 -- src/state.rt:44:29
 enum-told : tie.Need-enum-told
@@ -17,11 +17,11 @@ enum-told c = search needs
 
 -- src/state.rt:39:5
 returns : tie.Need-returns
-returns c = simp (c .number-of .ensures, c .before .before .self .given .1)
+returns c = simp (c .number .ensures, c .before .before .self .given .1)
 
 -- src/state.rt:39:5
 returns-2 : tie.Need-returns-2
 returns-2 c = search needs
 
 pub number-spec : {M : Type 1} → statement M
-number-spec = tie.close (tie.spec enum-known-self number-of-requires enum-told returns returns-2)
+number-spec = tie.close (tie.spec enum-known-self number-requires enum-told returns returns-2)

@@ -4,6 +4,7 @@ use Prim.Native.Nat.{ℕ, zero, suc, _+_}
 use mathlib.Core.Bool.{Bool, true, false, cond}
 use mathlib.Core.List.{List, [], _∷_, _++_, map, reverse}
 use lib.ListN.{length, drop}
+use Rattle.zynq7000.specs.Access.{valueWord}
 use Rattle.zynq7000.specs.declared.qspi.Access.{Access}
 use Rattle.zynq7000.specs.declared.qspi.Access.the-variants as access
 use Rattle.qspi_transfer.specs.Wire.{waits}
@@ -201,3 +202,23 @@ unfoldable pub readsOf : List Access → ℕ
 readsOf [] = 0
 readsOf (access.Read o v ∷ l) = suc (readsOf l)
 readsOf (access.Write o v ∷ l) = readsOf l
+
+-- the replies that they used, in order
+abbrev pub repliesOf : List Access → List ℕ
+repliesOf [] = []
+repliesOf (access.Read o v ∷ l) = v ∷ repliesOf l
+repliesOf (access.Write o v ∷ l) = repliesOf l
+
+-- ---- the logs of a call: each access the one that was due, whatever a read brings
+
+pub data Matches : Want → Access → Type 0 where
+  m-read : {o v : ℕ} → Matches (reads o) (access.Read o v)
+  m-write : {o v : ℕ} → Matches (writes o v) (access.Write o v)
+
+abbrev pub after : State → List Access → State
+after s [] = s
+after s (a ∷ l) = after (next s (valueWord a)) l
+
+abbrev pub Makes : State → List Access → Type 0
+Makes s [] = Unit {0}
+Makes s (a ∷ l) = Matches (want s) a × Makes (next s (valueWord a)) l
