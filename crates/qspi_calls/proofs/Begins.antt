@@ -25,18 +25,18 @@ use Rattle.qspi_calls.proofs.LowLevelCalls as low
 
 -- what a start that is given the lengths of the lent memory promises, out of its equation by counters
 abbrev OnlyLog : (ℕ → Op) → Script → Type 0
-OnlyLog o₀ c = (n : ℕ) → n < 2 ^ 64 → {o : Op} → o ≡ o₀ n → (o ≡ o₀ n) × Begins n c o
+OnlyLog o₀ c = (n : ℕ) → n < 2 ^ 64 → (o : Op) → o ≡ o₀ n → (o ≡ o₀ n) × Begins n c o
 
 abbrev WithData : (ℕ → ℕ → Op) → (List ℕ → Script) → Type 0
-WithData o₀ c = (d n : ℕ) → n < 2 ^ 64 → {o : Op} → o ≡ o₀ d n → (o ≡ o₀ d n) × BeginsWith d n c o
+WithData o₀ c = (d n : ℕ) → n < 2 ^ 64 → (o : Op) → o ≡ o₀ d n → (o ≡ o₀ d n) × BeginsWith d n c o
 
 abbrev IntoBuffer : (ℕ → ℕ → Op) → (ℕ → Script) → Type 0
-IntoBuffer o₀ c = (b n : ℕ) → n < 2 ^ 64 → {o : Op} → o ≡ o₀ b n → (o ≡ o₀ b n) × BeginsInto b n (c b) o
+IntoBuffer o₀ c = (b n : ℕ) → n < 2 ^ 64 → (o : Op) → o ≡ o₀ b n → (o ≡ o₀ b n) × BeginsInto b n (c b) o
 
 module _ (o₀ : ℕ → Op) where
   -- a call that is lent only a log
   only-log : (c : Script) → ((log : List ℕ) → Starts (o₀ (length log)) [] log [] c) → OnlyLog o₀ c
-  only-log c h n fits e =
+  only-log c h n fits o e =
       let log : List ℕ = replicate n 0 in
       let k : length log ≡ n = length-replicate {A = ℕ} n 0 in
       let y : Begun (record { bytes = []; buffer = []; room = length log }) c (o₀ (length log)) = started (o₀ (length log)) [] log [] c (omega (arith, k, fits)) (h log) in
@@ -44,7 +44,7 @@ module _ (o₀ : ℕ → Op) where
 
 module _ (o₀ : ℕ → ℕ → Op) where
   with-data : (c : List ℕ → Script) → ((bs log : List ℕ) → Starts (o₀ (length bs) (length log)) bs log [] (c bs)) → WithData o₀ c
-  with-data c h d n fits e =
+  with-data c h d n fits o e =
       let log : List ℕ = replicate n 0 in
       let k : length log ≡ n = length-replicate {A = ℕ} n 0 in (
         e,
@@ -54,7 +54,7 @@ module _ (o₀ : ℕ → ℕ → Op) where
       )
 
   with-buffer : (c : ℕ → Script) → ((log old : List ℕ) → Starts (o₀ (length old) (length log)) [] log old (c (length old))) → IntoBuffer o₀ c
-  with-buffer c h b n fits e =
+  with-buffer c h b n fits o e =
       let log : List ℕ = replicate n 0 in
       let k : length log ≡ n = length-replicate {A = ℕ} n 0 in (
         e,

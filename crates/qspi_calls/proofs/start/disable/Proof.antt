@@ -9,7 +9,7 @@ registers-requires : tie.Need-registers-requires
 registers-requires c κs = search needs
 
 returns : tie.Need-returns
-returns c = begins.disable _ (omega (arith, c .before .good)) (c .registers .ensures)
+returns c = begins.disable _ (omega (arith, c .before .good)) _ (c .registers .ensures)
 
 pub disable-spec : {M : Type 1} → statement M
 disable-spec = tie.close (tie.spec registers-requires returns)

@@ -20,7 +20,7 @@ registers-requires c κs = search needs
 
 -- src/start.rt:506:1
 returns : tie.Need-returns
-returns c = begins.enable-io-mode (c .before .before .args .dual-flash) _ (omega (arith, c .before .before .good)) (simp (c .registers .ensures, c .before .io-mode-config .ensures))
+returns c = begins.enable-io-mode (c .before .before .args .dual-flash) _ (omega (arith, c .before .before .good)) _ (simp (c .registers .ensures, c .before .io-mode-config .ensures))
 
 pub enable-io-mode-spec : {M : Type 1} → statement M
 enable-io-mode-spec = tie.close (tie.spec io-mode-config-requires registers-requires returns)

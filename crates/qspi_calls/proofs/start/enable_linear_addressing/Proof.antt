@@ -9,7 +9,7 @@ registers-requires : tie.Need-registers-requires
 registers-requires c κs = search needs
 
 returns : tie.Need-returns
-returns c = begins.enable-linear-addressing _ _ (omega (arith, c .before .good)) (c .registers .ensures)
+returns c = begins.enable-linear-addressing _ _ (omega (arith, c .before .good)) _ (c .registers .ensures)
 
 pub enable-linear-addressing-spec : {M : Type 1} → statement M
 enable-linear-addressing-spec = tie.close (tie.spec registers-requires returns)

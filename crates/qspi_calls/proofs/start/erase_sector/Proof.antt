@@ -27,7 +27,7 @@ over-requires c κs = search needs
 
 -- src/start.rt:354:9
 returns : tie.Need-returns
-returns c = begins.erase-sector (c .before .before .before .before .args .addr) _ (omega (arith, c .before .before .before .before .good)) (simp (c .over .ensures, c .before .if1 .taken, ← c .before .before .out-of-range .ensures, c .before .before .before .working .ensures))
+returns c = begins.erase-sector (c .before .before .before .before .args .addr) _ (omega (arith, c .before .before .before .before .good)) _ (simp (c .over .ensures, c .before .if1 .taken, ← c .before .before .out-of-range .ensures, c .before .before .before .working .ensures))
 
 -- src/start.rt:357:9
 over-requires-2 : tie.Need-over-requires-2
@@ -35,7 +35,7 @@ over-requires-2 c κs = search needs
 
 -- src/start.rt:357:9
 returns-2 : tie.Need-returns-2
-returns-2 c = begins.erase-sector (c .before .before .before .before .before .args .addr) _ (omega (arith, c .before .before .before .before .before .good)) (simp (c .over2 .ensures, ne-eqb _ _ (c .before .if2 .taken), c .before .before .if1 .left, ← c .before .before .before .out-of-range .ensures, c .before .before .before .before .working .ensures))
+returns-2 c = begins.erase-sector (c .before .before .before .before .before .args .addr) _ (omega (arith, c .before .before .before .before .before .good)) _ (simp (c .over2 .ensures, ne-eqb _ _ (c .before .if2 .taken), c .before .before .if1 .left, ← c .before .before .before .out-of-range .ensures, c .before .before .before .before .working .ensures))
 
 -- src/start.rt:359:16
 place-requires : tie.Need-place-requires
@@ -47,7 +47,7 @@ going-requires c κs = search needs
 
 -- src/start.rt:342:1
 returns-3 : tie.Need-returns-3
-returns-3 c = begins.erase-sector (c .before .before .before .before .before .before .args .addr) _ (omega (arith, c .before .before .before .before .before .before .good)) (simp (c .going .ensures, c .before .place .ensures, eq-eqb _ _ (c .before .before .if2 .left), c .before .before .before .if1 .left, ← c .before .before .before .before .out-of-range .ensures, c .before .before .before .before .before .working .ensures))
+returns-3 c = begins.erase-sector (c .before .before .before .before .before .before .args .addr) _ (omega (arith, c .before .before .before .before .before .before .good)) _ (simp (c .going .ensures, c .before .place .ensures, eq-eqb _ _ (c .before .before .if2 .left), c .before .before .before .if1 .left, ← c .before .before .before .before .out-of-range .ensures, c .before .before .before .before .before .working .ensures))
 
 pub erase-sector-spec : {M : Type 1} → statement M
 erase-sector-spec =

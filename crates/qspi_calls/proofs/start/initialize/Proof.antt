@@ -46,13 +46,13 @@ returns : tie.Need-returns
 returns c =
     let x = c .before .before .before .before .before .before .args in
     let y = worded (x .clock-config) (x .phase) (x .polarity) (c .before .before .before .before .initialize-words .ensures) (c .before .before .words .given .1) in
-    begins.initialize (c .before .before .before .before .before .before .args .clock-config) (c .before .before .before .before .before .before .args .phase) (c .before .before .before .before .before .before .args .polarity) _ (omega (arith, c .before .before .before .before .before .before .good)) (simp (c .registers .ensures, y .narrow, y .config, y .clock, c .before .before .before .before .before .sequence-of .ensures))
+    begins.initialize (c .before .before .before .before .before .before .args .clock-config) (c .before .before .before .before .before .before .args .phase) (c .before .before .before .before .before .before .args .polarity) _ (omega (arith, c .before .before .before .before .before .before .good)) _ (simp (c .registers .ensures, y .narrow, y .config, y .clock, c .before .before .before .before .before .sequence-of .ensures))
 
 -- src/start.rt:487:1
 returns-2 : tie.Need-returns-2
 returns-2 c =
     let x = c .before .before .before .before .before .before .args in
-    begins.initialize (c .before .before .before .before .before .before .args .clock-config) (c .before .before .before .before .before .before .args .phase) (c .before .before .before .before .before .before .args .polarity) _ (omega (arith, c .before .before .before .before .before .before .good)) (simp (c .over .ensures, c .before .registers-job .ensures, too-wide (x .clock-config) (x .phase) (x .polarity) (c .before .before .before .before .initialize-words .ensures) (c .before .before .enum-told .given .1)))
+    begins.initialize (c .before .before .before .before .before .before .args .clock-config) (c .before .before .before .before .before .before .args .phase) (c .before .before .before .before .before .before .args .polarity) _ (omega (arith, c .before .before .before .before .before .before .good)) _ (simp (c .over .ensures, c .before .registers-job .ensures, too-wide (x .clock-config) (x .phase) (x .polarity) (c .before .before .before .before .initialize-words .ensures) (c .before .before .enum-told .given .1)))
 
 pub initialize-spec : {M : Type 1} → statement M
 initialize-spec =

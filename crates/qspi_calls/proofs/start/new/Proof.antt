@@ -27,11 +27,11 @@ configuring-requires-2 c κs = search needs
 
 -- src/start.rt:272:1
 returns : tie.Need-returns
-returns c = begins.new (c .before .before .before .args .config) _ (omega (arith, c .before .before .before .good)) (simp (c .configuring .ensures, c .before .enum-told .given .1))
+returns c = begins.new (c .before .before .before .args .config) _ (omega (arith, c .before .before .before .good)) _ (simp (c .configuring .ensures, c .before .enum-told .given .1))
 
 -- src/start.rt:272:1
 returns-2 : tie.Need-returns-2
-returns-2 c = begins.new (c .before .before .before .before .args .config) _ (omega (arith, c .before .before .before .before .good)) (simp (c .configuring2 .ensures, c .before .known-told .given .1, c .before .before .latency .given .1))
+returns-2 c = begins.new (c .before .before .before .before .args .config) _ (omega (arith, c .before .before .before .before .good)) _ (simp (c .configuring2 .ensures, c .before .known-told .given .1, c .before .before .latency .given .1))
 
 pub new-spec : {M : Type 1} → statement M
 new-spec =

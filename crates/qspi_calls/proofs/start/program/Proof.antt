@@ -27,7 +27,7 @@ over-requires c κs = search needs
 
 -- src/start.rt:374:9
 returns : tie.Need-returns
-returns c = begins.program _ _ _ (omega (arith, c .before .before .before .before .good)) (simp (c .over .ensures, c .before .if1 .taken, ← c .before .before .out-of-range .ensures, c .before .before .before .programming .ensures))
+returns c = begins.program _ _ _ (omega (arith, c .before .before .before .before .good)) _ (simp (c .over .ensures, c .before .if1 .taken, ← c .before .before .out-of-range .ensures, c .before .before .before .programming .ensures))
 
 -- src/start.rt:377:9
 over-requires-2 : tie.Need-over-requires-2
@@ -35,7 +35,7 @@ over-requires-2 c κs = search needs
 
 -- src/start.rt:377:9
 returns-2 : tie.Need-returns-2
-returns-2 c = begins.program _ _ _ (omega (arith, c .before .before .before .before .before .good)) (simp (c .over2 .ensures, lt-ltb _ _ (c .before .if2 .taken), c .before .before .if1 .left, ← c .before .before .before .out-of-range .ensures, c .before .before .before .before .programming .ensures))
+returns-2 c = begins.program _ _ _ (omega (arith, c .before .before .before .before .before .good)) _ (simp (c .over2 .ensures, lt-ltb _ _ (c .before .if2 .taken), c .before .before .if1 .left, ← c .before .before .before .out-of-range .ensures, c .before .before .before .before .programming .ensures))
 
 -- src/start.rt:380:9
 over-requires-3 : tie.Need-over-requires-3
@@ -43,7 +43,7 @@ over-requires-3 c κs = search needs
 
 -- src/start.rt:380:9
 returns-3 : tie.Need-returns-3
-returns-3 c = begins.program _ _ _ (omega (arith, c .before .before .before .before .before .before .good)) (simp (c .over3 .ensures, ne-eqb _ _ (c .before .if3 .taken), le-ltb _ _ (c .before .before .if2 .left), c .before .before .before .if1 .left, ← c .before .before .before .before .out-of-range .ensures, c .before .before .before .before .before .programming .ensures))
+returns-3 c = begins.program _ _ _ (omega (arith, c .before .before .before .before .before .before .good)) _ (simp (c .over3 .ensures, ne-eqb _ _ (c .before .if3 .taken), le-ltb _ _ (c .before .before .if2 .left), c .before .before .before .if1 .left, ← c .before .before .before .before .out-of-range .ensures, c .before .before .before .before .before .programming .ensures))
 
 -- src/start.rt:382:14
 add-if4 : tie.Need-add-if4
@@ -55,7 +55,7 @@ over-requires-4 c κs = search needs
 
 -- src/start.rt:383:9
 returns-4 : tie.Need-returns-4
-returns-4 c = begins.program _ _ _ (omega (arith, c .before .before .before .before .before .before .before .good)) (simp (c .over4 .ensures, lt-ltb _ _ (c .before .if4 .taken), eq-eqb _ _ (c .before .before .if3 .left), le-ltb _ _ (c .before .before .before .if2 .left), c .before .before .before .before .if1 .left, ← c .before .before .before .before .before .out-of-range .ensures, c .before .before .before .before .before .before .programming .ensures))
+returns-4 c = begins.program _ _ _ (omega (arith, c .before .before .before .before .before .before .before .good)) _ (simp (c .over4 .ensures, lt-ltb _ _ (c .before .if4 .taken), eq-eqb _ _ (c .before .before .if3 .left), le-ltb _ _ (c .before .before .before .if2 .left), c .before .before .before .before .if1 .left, ← c .before .before .before .before .before .out-of-range .ensures, c .before .before .before .before .before .before .programming .ensures))
 
 -- src/start.rt:385:37
 cast-place : tie.Need-cast-place
@@ -71,7 +71,7 @@ going-requires c κs = search needs
 
 -- src/start.rt:362:1
 returns-5 : tie.Need-returns-5
-returns-5 c = begins.program _ _ _ (omega (arith, c .before .before .before .before .before .before .before .before .good)) (simp (c .going .ensures, c .before .place .ensures, le-ltb _ _ (c .before .before .if4 .left), eq-eqb _ _ (c .before .before .before .if3 .left), le-ltb _ _ (c .before .before .before .before .if2 .left), c .before .before .before .before .before .if1 .left, ← c .before .before .before .before .before .before .out-of-range .ensures, c .before .before .before .before .before .before .before .programming .ensures))
+returns-5 c = begins.program _ _ _ (omega (arith, c .before .before .before .before .before .before .before .before .good)) _ (simp (c .going .ensures, c .before .place .ensures, le-ltb _ _ (c .before .before .if4 .left), eq-eqb _ _ (c .before .before .before .if3 .left), le-ltb _ _ (c .before .before .before .before .if2 .left), c .before .before .before .before .before .if1 .left, ← c .before .before .before .before .before .before .out-of-range .ensures, c .before .before .before .before .before .before .before .programming .ensures))
 
 pub program-spec : {M : Type 1} → statement M
 program-spec =

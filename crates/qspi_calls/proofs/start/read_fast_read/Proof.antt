@@ -9,7 +9,7 @@ read-requires : tie.Need-read-requires
 read-requires c κs = search needs
 
 returns : tie.Need-returns
-returns c = begins.read-fast-read _ _ _ _ (omega (arith, c .before .good)) (c .read .ensures)
+returns c = begins.read-fast-read _ _ _ _ (omega (arith, c .before .good)) _ (c .read .ensures)
 
 pub read-fast-read-spec : {M : Type 1} → statement M
 read-fast-read-spec = tie.close (tie.spec read-requires returns)

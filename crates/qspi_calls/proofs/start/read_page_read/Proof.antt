@@ -9,7 +9,7 @@ read-requires : tie.Need-read-requires
 read-requires c κs = search needs
 
 returns : tie.Need-returns
-returns c = begins.read-page-read _ _ _ (omega (arith, c .before .good)) (c .read .ensures)
+returns c = begins.read-page-read _ _ _ (omega (arith, c .before .good)) _ (c .read .ensures)
 
 pub read-page-read-spec : {M : Type 1} → statement M
 read-page-read-spec = tie.close (tie.spec read-requires returns)

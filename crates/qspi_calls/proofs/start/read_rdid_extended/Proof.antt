@@ -9,7 +9,7 @@ one-transfer-requires : tie.Need-one-transfer-requires
 one-transfer-requires c κs = search needs
 
 returns : tie.Need-returns
-returns c = begins.read-rdid-extended _ (omega (arith, c .before .good)) (c .one-transfer .ensures)
+returns c = begins.read-rdid-extended _ (omega (arith, c .before .good)) _ (c .one-transfer .ensures)
 
 pub read-rdid-extended-spec : {M : Type 1} → statement M
 read-rdid-extended-spec = tie.close (tie.spec one-transfer-requires returns)

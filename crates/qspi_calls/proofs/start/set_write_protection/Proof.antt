@@ -30,11 +30,11 @@ going-requires c κs = search needs
 
 -- src/start.rt:284:1
 returns : tie.Need-returns
-returns c = begins.set-write-protection (c .before .before .before .args .protection) _ (omega (arith, c .before .before .before .good)) (simp (c .over .ensures, lt-ltb _ _ (c .before .if1 .taken), c .before .before .updating .ensures))
+returns c = begins.set-write-protection (c .before .before .before .args .protection) _ (omega (arith, c .before .before .before .good)) _ (simp (c .over .ensures, lt-ltb _ _ (c .before .if1 .taken), c .before .before .updating .ensures))
 
 -- src/start.rt:284:1
 returns-2 : tie.Need-returns-2
-returns-2 c = begins.set-write-protection (c .before .before .before .before .args .protection) _ (omega (arith, c .before .before .before .before .good)) (simp (c .going .ensures, c .before .place .ensures, le-ltb _ _ (c .before .before .if1 .left), c .before .before .before .updating .ensures))
+returns-2 c = begins.set-write-protection (c .before .before .before .before .args .protection) _ (omega (arith, c .before .before .before .before .good)) _ (simp (c .going .ensures, c .before .place .ensures, le-ltb _ _ (c .before .before .if1 .left), c .before .before .before .updating .ensures))
 
 pub set-write-protection-spec : {M : Type 1} → statement M
 set-write-protection-spec =

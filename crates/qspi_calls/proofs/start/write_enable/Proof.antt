@@ -9,7 +9,7 @@ one-transfer-requires : tie.Need-one-transfer-requires
 one-transfer-requires c κs = search needs
 
 returns : tie.Need-returns
-returns c = begins.write-enable _ (omega (arith, c .before .good)) (c .one-transfer .ensures)
+returns c = begins.write-enable _ (omega (arith, c .before .good)) _ (c .one-transfer .ensures)
 
 pub write-enable-spec : {M : Type 1} → statement M
 write-enable-spec = tie.close (tie.spec one-transfer-requires returns)

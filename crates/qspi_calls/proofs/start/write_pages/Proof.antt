@@ -27,7 +27,7 @@ over-requires c κs = search needs
 
 -- src/start.rt:434:9
 returns : tie.Need-returns
-returns c = begins.write-pages _ _ _ (omega (arith, c .before .before .before .before .good)) (simp (c .over .ensures, c .before .if1 .taken, ← c .before .before .out-of-range .ensures, c .before .before .before .programming .ensures))
+returns c = begins.write-pages _ _ _ (omega (arith, c .before .before .before .before .good)) _ (simp (c .over .ensures, c .before .if1 .taken, ← c .before .before .out-of-range .ensures, c .before .before .before .programming .ensures))
 
 -- src/start.rt:436:45
 place-requires : tie.Need-place-requires
@@ -43,7 +43,7 @@ opened-requires c κs = search needs
 
 -- src/start.rt:421:1
 returns-2 : tie.Need-returns-2
-returns-2 c = begins.write-pages _ _ _ (omega (arith, c .before .before .before .before .before .before .good)) (simp (c .opened .ensures, c .before .next-page .ensures, c .before .before .place .ensures, c .before .before .before .if1 .left, ← c .before .before .before .before .out-of-range .ensures, c .before .before .before .before .before .programming .ensures))
+returns-2 c = begins.write-pages _ _ _ (omega (arith, c .before .before .before .before .before .before .good)) _ (simp (c .opened .ensures, c .before .next-page .ensures, c .before .before .place .ensures, c .before .before .before .if1 .left, ← c .before .before .before .before .out-of-range .ensures, c .before .before .before .before .before .programming .ensures))
 
 pub write-pages-spec : {M : Type 1} → statement M
 write-pages-spec =

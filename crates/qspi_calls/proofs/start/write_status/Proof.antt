@@ -30,7 +30,7 @@ going-requires c κs = search needs
 
 -- src/start.rt:189:1
 returns : tie.Need-returns
-returns c = begins.write-status _ _ (omega (arith, c .before .before .before .before .good)) (simp (c .going .ensures, c .before .place .ensures, c .before .before .command .ensures, c .before .before .before .enabled .ensures))
+returns c = begins.write-status _ _ (omega (arith, c .before .before .before .before .good)) _ (simp (c .going .ensures, c .before .place .ensures, c .before .before .command .ensures, c .before .before .before .enabled .ensures))
 
 pub write-status-spec : {M : Type 1} → statement M
 write-status-spec =
