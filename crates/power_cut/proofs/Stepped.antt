@@ -17,7 +17,7 @@ use Rattle.qspi_operation.specs.Step.{isGoing}
 use Rattle.qspi_operation.specs.Machine.{begin, countIn, Result, runs, repliesOf, after, Makes}
 use Rattle.qspi_operation.specs.Points.{sameAs, Point, outset, stepAt, accessAt}
 use Rattle.qspi_operation.specs.Follows.{Follows, StepFollows}
-use Rattle.qspi_operation.specs.Orders.{before, Stands}
+use Rattle.qspi_operation.specs.Orders.{Stands}
 use Rattle.qspi_operation.proofs.Following.{shows}
 use Rattle.qspi_operation.proofs.Orders.{runs-on, before-log, step-stands, outset-stands}
 use Rattle.qspi_operation.proofs.PointLaws.{made-more, encode-append}
@@ -26,7 +26,6 @@ use Rattle.qspi_calls.specs.Calls.{writePages}
 use Rattle.qspi_calls.proofs.WireOrder.{AllBytes}
 use Rattle.qspi_calls.proofs.Registers.{Call, run-loggable}
 use Rattle.power_cut.specs.Statement.{PowerCut}
-use Rattle.power_cut.specs.Promise.{Saved}
 use Rattle.power_cut.specs.Saving.{lending, Saving, StepSaves}
 use Rattle.power_cut.proofs.Promised.{all-bytes}
 use Rattle.power_cut.proofs.Theorem.{power-cut-of}

@@ -1,7 +1,7 @@
 -- The calls that send nothing, each tied to its list of register accesses. Assumes nothing.
 use mathlib.Core.Path.{_≡_, refl, ap, _∙_, sym}
-use mathlib.Core.Bool.{Bool, true, false, cond}
-use mathlib.Core.List.{List, [], _∷_, _++_, map}
+use mathlib.Core.Bool.{Bool, true, false}
+use mathlib.Core.List.{List, [], _∷_, map}
 use Prim.Native.Nat.{ℕ}
 use native.Mathlib.Omega.{arith}
 use lib.Dec.{ltb}
@@ -15,7 +15,6 @@ use Rattle.zynq7000_hal.specs.declared.qspi.BaudRateConfig.{BaudRateConfig}
 use Rattle.zynq7000_hal.specs.declared.qspi.BaudRateConfig.the-variants.{WithLoopback, WithoutLoopback}
 use Rattle.zynq7000_hal.specs.declared.qspi.ClockConfig.{ClockConfig}
 use Rattle.qspi_transfer.specs.LowLevel.{automatic, manual, chipSelectHigh}
-use Rattle.qspi_transfer.specs.Wire.{freshWire}
 use Rattle.qspi_transfer.specs.declared.Phase.the-variants as phase
 use Rattle.qspi_transfer.specs.declared.Wire.{Wire}
 use Rattle.qspi_transfer.specs.declared.low_level.Sequence.{Sequence}
@@ -28,13 +27,12 @@ use Rattle.qspi_script.specs.declared.Gives.{Gives}
 use Rattle.qspi_script.specs.declared.Gives.the-variants as gives
 use Rattle.qspi_script.specs.declared.Job.{Job}
 use Rattle.qspi_script.specs.declared.Place.{Place}
-use Rattle.qspi_operation.specs.declared.Op.{Op}
 use Rattle.qspi_operation.specs.Store.{stored}
 use Rattle.qspi_operation.specs.Step.{isGoing, accessOf}
 use Rattle.qspi_operation.proofs.Verdicts.{no}
-use Rattle.qspi_operation.specs.Machine.{Action, write, modify, Midway, first, changed, Want, nothing, wantAt, Script, ends, perform, none, State, going, ended, onward, want, next, statusIn, valuesIn, bytesIn, countIn, overlaid}
+use Rattle.qspi_operation.specs.Machine.{Action, write, modify, Midway, first, changed, nothing, wantAt, ends, perform, none, State, going, ended, onward, want, next, statusIn, valuesIn, bytesIn, countIn, overlaid}
 use Rattle.qspi_calls.specs.Calls as call
-use Rattle.qspi_calls.specs.Calls.{done, refused}
+use Rattle.qspi_calls.specs.Calls.{refused}
 use Rattle.qspi_calls.specs.Starts as start
 use Rattle.qspi_calls.proofs.Tied.{asked, after, given, Tie, Starts}
 use Rattle.qspi_calls.proofs.Short.{ended-at-start}

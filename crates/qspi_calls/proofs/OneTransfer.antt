@@ -4,15 +4,12 @@ use mathlib.Core.List.{List, [], _∷_, reverse}
 use Prim.Native.Nat.{ℕ, zero, suc, _<_}
 use native.Mathlib.Omega.{arith}
 use lib.ListN.{length, getD}
-use Rattle.zedboard_bsp.specs.Words.{topByte}
 use Rattle.zedboard_bsp.specs.DeviceId.{replyBytes, longReplyBytes}
 use Rattle.qspi_transfer.specs.declared.Phase.the-variants as phase
-use Rattle.qspi_transfer.specs.declared.Wire.{Wire}
-use Rattle.qspi_script.specs.Stages.{firstWord, dueWord, longIdFrame}
+use Rattle.qspi_script.specs.Stages.{dueWord}
 use Rattle.qspi_script.specs.Turns.{turnOf}
 use Rattle.qspi_script.specs.declared.Stage.{Stage}
 use Rattle.qspi_script.specs.declared.Stage.the-variants as stage
-use Rattle.qspi_script.specs.declared.Status.{Status}
 use Rattle.qspi_script.specs.declared.Status.the-variants.{Done}
 use Rattle.qspi_script.specs.declared.Gives.{Gives}
 use Rattle.qspi_script.specs.declared.Gives.the-variants as gives
@@ -22,9 +19,9 @@ use Rattle.qspi_operation.specs.Machine.{Transfer, Script, ends}
 use Rattle.qspi_calls.specs.Calls as call
 use Rattle.qspi_calls.specs.Calls.{top, done}
 use Rattle.qspi_calls.specs.Starts as start
-use Rattle.qspi_calls.proofs.Phases.{wire, words, Same}
+use Rattle.qspi_calls.proofs.Phases.{wire, words}
 use Rattle.qspi_calls.proofs.Scripted.{Turns, over}
-use Rattle.qspi_calls.proofs.Short.{of-one, of-three, same-short, word-short, Only, only, one-transfer}
+use Rattle.qspi_calls.proofs.Short.{of-one, of-three, same-short, word-short, Only, one-transfer}
 use Rattle.qspi_calls.proofs.Tied.{Starts}
 
 module _ (log : List ℕ) where

@@ -2,21 +2,19 @@
 use mathlib.Core.Path.{_≡_, refl, ap, subst, _∙_, sym}
 use mathlib.Core.Bool.{Bool, true, false}
 use mathlib.Core.List.{List, [], _∷_, _++_}
-use Prim.Native.Nat.{ℕ, suc, _+_, _-_, _*_, _/_, _≤_}
+use Prim.Native.Nat.{ℕ, _+_, _-_, _*_, _/_}
 use native.Mathlib.Omega.{arith}
 use lib.ListN.{length, drop}
 use lib.Seq.{sets, sets-eq}
 use Rattle.zynq7000.specs.Access.{encode}
-use Rattle.zynq7000.specs.declared.qspi.Access.{Access}
 use Rattle.zynq7000.proofs.AccessLaws.{length-encode}
-use Rattle.qspi_script.specs.declared.Job.{Job}
 use Rattle.qspi_operation.specs.declared.Op.{Op}
 use Rattle.qspi_operation.specs.declared.Stepped.{Stepped}
-use Rattle.qspi_operation.specs.Machine.{Script, State, begin, ended, going, statusIn, bytesIn, Result, halt, runs, called, overlaid, readsOf}
-use Rattle.qspi_operation.specs.Points.{Lending, outset, rest, answerAt, answeredOf}
-use Rattle.qspi_operation.specs.Follows.{Begun, OnRun, RunFollows, answerBy}
+use Rattle.qspi_operation.specs.Machine.{Script, State, begin, statusIn, bytesIn, Result, halt, runs, called, overlaid, readsOf}
+use Rattle.qspi_operation.specs.Points.{Lending, outset, rest, answeredOf}
+use Rattle.qspi_operation.specs.Follows.{Begun, OnRun, RunFollows}
 use Rattle.qspi_operation.specs.Run as by-counters
-use Rattle.qspi_operation.specs.Run.{Run, runOf}
+use Rattle.qspi_operation.specs.Run.{runOf}
 use Rattle.qspi_operation.specs.Step.{isGoing}
 use Rattle.qspi_operation.proofs.Orders.{run-ended}
 use Rattle.qspi_operation.proofs.PointLaws.{over-runs}

@@ -1,14 +1,13 @@
 -- For any call of transfers that lends no buffer: it is tied to its script where, at each stage, the transfer is the script's and the turn
 -- after it is the script's. Assumes nothing.
 use mathlib.Core.Path.{_≡_, refl, ap, _∙_, sym}
-use mathlib.Core.Bool.{Bool, true, false, cond}
-use mathlib.Core.List.{List, [], _∷_, _++_, reverse}
-use Prim.Native.Nat.{ℕ, zero, suc, _+_, _<_}
+use mathlib.Core.Bool.{Bool, true, false}
+use mathlib.Core.List.{List, [], reverse}
+use Prim.Native.Nat.{ℕ, _+_, _<_}
 use native.Mathlib.Omega.{arith}
-use lib.ListN.{length, getD, drop}
-use Rattle.qspi_transfer.specs.Wire.{wireNext, freshWire, pickWire}
+use lib.ListN.{length, getD}
+use Rattle.qspi_transfer.specs.Wire.{freshWire, pickWire}
 use Rattle.qspi_transfer.specs.declared.Moved.{Moved}
-use Rattle.qspi_transfer.specs.declared.Moved.the-variants.{On, Over}
 use Rattle.qspi_transfer.specs.declared.Phase.the-variants.{DrainStatus, Disable}
 use Rattle.qspi_transfer.specs.declared.Wire.{Wire}
 use Rattle.qspi_script.specs.Stages.{frameOf, dueWord}
@@ -21,9 +20,9 @@ use Rattle.qspi_script.specs.declared.Place.{Place}
 use Rattle.qspi_script.specs.declared.Turned.{Turned}
 use Rattle.qspi_operation.specs.declared.Op.{Op}
 use Rattle.qspi_operation.specs.Store.{when, stored, isReading, isTaking}
-use Rattle.qspi_operation.specs.Step.{isGoing, accessOf, moved, movedBy, programmedAt}
+use Rattle.qspi_operation.specs.Step.{isGoing, accessOf, movedBy, programmedAt}
 use Rattle.qspi_operation.proofs.Verdicts.{no}
-use Rattle.qspi_operation.specs.Machine.{Action, drain, Midway, first, Want, nothing, wantAt, progress, Transfer, opening, Script, ends, perform, repeats, counts, none, exchange, State, going, ended, onward, begin, moves, want, next, statusIn, valuesIn, bytesIn, countIn, overlaid}
+use Rattle.qspi_operation.specs.Machine.{Action, drain, Midway, nothing, wantAt, Transfer, opening, Script, ends, repeats, counts, none, exchange, State, going, ended, onward, begin, want, next, statusIn, valuesIn, bytesIn, countIn, overlaid}
 use Rattle.qspi_calls.proofs.Tied.{asked, after, given, Tie}
 use Rattle.qspi_calls.proofs.Phases.{wire, words, Same, AtPhase, p-drain, p-data, p-open, p-opens, p-enable, p-send, p-start, p-starts, p-wait, p-again, p-take, p-close, p-closes, p-end, due-same, Goes, goes-on, goes-over, wire-same}
 

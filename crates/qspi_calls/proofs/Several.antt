@@ -1,34 +1,33 @@
 -- The calls of several transfers, each tied to its script stage by stage. Assumes nothing.
 use mathlib.Core.Path.{_≡_, refl, ap, _∙_, sym}
-use mathlib.Core.Bool.{Bool, true, false, cond, not, _&&_, _||_}
-use mathlib.Core.List.{List, [], _∷_, _++_, reverse}
-use Prim.Native.Nat.{ℕ, zero, suc, _+_, _-_, _*_, _/_, _%_, _^_, _≤_, _<_}
+use mathlib.Core.Bool.{Bool, true, false, not, _&&_, _||_}
+use mathlib.Core.List.{List, [], _∷_, reverse}
+use Prim.Native.Nat.{ℕ, zero, suc, _+_, _-_, _%_, _^_, _≤_, _<_}
 use native.Mathlib.Omega.{arith}
 use lib.Dec.{ltb, eqb}
 use lib.ListN.{length, getD}
-use borrow.Author.Tests.{ltb-true, ltb-false, eqb-true, ne-eqb}
+use borrow.Author.Tests.{ltb-false, eqb-true, ne-eqb}
 use Rattle.zynq7000.specs.Bits.{isSet}
 use Rattle.zedboard_bsp.specs.Registers.{protected, configuredCr, configuredSr, updateNeeded}
 use Rattle.zedboard_bsp.specs.Words.{topByte}
 use Rattle.qspi_transfer.specs.declared.Phase.the-variants as phase
 use Rattle.qspi_transfer.specs.declared.Wire.{Wire}
 use Rattle.qspi_transfer.specs.Wire.{freshWire, pickWire}
-use Rattle.qspi_script.specs.Stages.{frameAt, frameOf, firstAt, dueWord}
+use Rattle.qspi_script.specs.Stages.{frameAt, frameOf, dueWord}
 use Rattle.qspi_script.specs.Turns.{statusOf, begin, finish, pick, settled, failed, turnAt, turnOf}
 use Rattle.qspi_script.specs.declared.Stage.{Stage}
 use Rattle.qspi_script.specs.declared.Stage.the-variants as stage
 use Rattle.qspi_script.specs.declared.Status.{Status}
-use Rattle.qspi_script.specs.declared.Status.the-variants.{Going, Done, OutOfRange, Alignment, DataTooLarge, NotAligned, CrossesPageBoundary, FieldTooWide, EraseErrorBitSet, ProgrammingErrorBitSet, RepliesEnded, LogFull}
+use Rattle.qspi_script.specs.declared.Status.the-variants.{Going, Done, OutOfRange, Alignment, DataTooLarge, NotAligned, CrossesPageBoundary, FieldTooWide, EraseErrorBitSet, ProgrammingErrorBitSet}
 use Rattle.qspi_script.specs.declared.Job.{Job}
 use Rattle.qspi_script.specs.declared.Place.{Place}
 use Rattle.qspi_script.specs.declared.Turned.{Turned}
 use Rattle.qspi_operation.specs.declared.Op.{Op}
 use Rattle.qspi_operation.specs.Store.{isReading}
 use Rattle.qspi_operation.specs.Step.{isGoing, programmedAt}
-use Rattle.qspi_operation.specs.Machine.{Transfer, Script, ends, repeats, exchange, onward, drain, opening}
-use Rattle.qspi_operation.specs.Machine as machine
+use Rattle.qspi_operation.specs.Machine.{Transfer, Script, ends, exchange, onward}
 use Rattle.qspi_calls.specs.Calls as call
-use Rattle.qspi_calls.specs.Calls.{short, enabling, disabling, clearing, statusReading, configReading, statusWriting, registersWriting, top, done, refused}
+use Rattle.qspi_calls.specs.Calls.{enabling, disabling, clearing, statusReading, configReading, statusWriting, registersWriting, top, done, refused}
 use Rattle.qspi_calls.specs.Starts as start
 use Rattle.qspi_calls.specs.declared.start.Config.{Config}
 use Rattle.qspi_calls.specs.declared.start.Latency.{Latency}
@@ -36,7 +35,7 @@ use Rattle.qspi_calls.specs.declared.start.Latency.the-variants.{AsRead,
 use Rattle.qspi_calls.proofs.Phases.{wire, words, Same, p-drain}
 use Rattle.qspi_calls.proofs.Scripted.{Turns, on, again, over, Scripted, Rel, rel-on, script-tie, turned, rel-bytes}
 use Rattle.qspi_calls.proofs.Short.{of-one, same-short, word-short, ended-at-start}
-use Rattle.qspi_calls.proofs.Tied.{given, Starts}
+use Rattle.qspi_calls.proofs.Tied.{Starts}
 use Rattle.qspi_calls.proofs.ProgramWords.{length-words, data-word}
 
 -- ---- starting

@@ -1,31 +1,29 @@
 -- Calls of one-word transfers: each is tied to its script. Assumes nothing.
-use mathlib.Core.Path.{_≡_, refl, ap, _∙_, sym}
+use mathlib.Core.Path.{_≡_, refl, sym}
 use mathlib.Core.Bool.{Bool, true, false, cond}
-use mathlib.Core.List.{List, [], _∷_, _++_, reverse}
-use Prim.Native.Nat.{ℕ, zero, suc, _+_, _*_, _<_}
+use mathlib.Core.List.{List, [], _∷_, reverse}
+use Prim.Native.Nat.{ℕ, zero, suc, _<_}
 use native.Mathlib.Omega.{arith}
 use lib.ListN.{length, getD}
 use Rattle.qspi_transfer.specs.declared.Phase.the-variants.{DrainStatus, Disable}
 use Rattle.qspi_transfer.specs.Wire.{freshWire}
 use Rattle.qspi_transfer.specs.declared.Wire.{Wire}
 use Rattle.qspi_script.specs.Stages.{oneWord, frameOf, firstWord, dueWord}
-use Rattle.qspi_script.specs.Turns.{turnOf, finish}
+use Rattle.qspi_script.specs.Turns.{turnOf}
 use Rattle.qspi_script.specs.declared.Status.{Status}
 use Rattle.qspi_script.specs.declared.Status.the-variants.{Going}
 use Rattle.qspi_script.specs.Answer.{saidBy}
 use Rattle.qspi_script.specs.declared.Job.{Job}
 use Rattle.qspi_script.specs.declared.Place.{Place}
-use Rattle.qspi_script.specs.declared.Turned.{Turned}
-use Rattle.qspi_operation.specs.declared.Op.{Op}
 use Rattle.qspi_operation.specs.Store.{isReading}
 use Rattle.qspi_operation.specs.Step.{isGoing, programmedAt}
 use Rattle.qspi_operation.proofs.Verdicts.{no}
-use Rattle.qspi_operation.specs.Machine.{Transfer, Script, ends, exchange, none, begin, State, ended, nothing, want, statusIn, valuesIn, countIn}
+use Rattle.qspi_operation.specs.Machine.{Transfer, Script, ends, exchange, State, ended, nothing, want, statusIn, valuesIn, countIn}
 use Rattle.qspi_calls.specs.Calls.{short}
 use Rattle.qspi_calls.specs.Starts as start
 use Rattle.qspi_calls.proofs.Tied.{given, Tie, Starts}
 use Rattle.qspi_calls.proofs.Phases.{wire, words, Same, p-drain}
-use Rattle.qspi_calls.proofs.Scripted.{Turns, Scripted, Rel, rel-on, rel-over, script-tie}
+use Rattle.qspi_calls.proofs.Scripted.{Turns, Rel, rel-on, script-tie}
 
 -- the replies of a transfer that takes one, or three
 pub of-one : (taken : List ℕ) (P : List ℕ → Type 0) → length taken ≡ 1 → ((r : ℕ) → P (r ∷ [])) → P taken

@@ -35,7 +35,6 @@ use Rattle.qspi_operation.specs.Step.{isGoing, accessOf, shown, answered, choos
 use Rattle.qspi_operation.specs.Machine.{Want, reads, writes, nothing, State, going, ended, want, next, statusIn, valuesIn, bytesIn, countIn, begin, Script, overlaid, readsOf}
 use Rattle.qspi_operation.specs.Points.{Lending, Point, reached, outset, roomFor, stepAt, accessIf, stepsAt}
 use Rattle.qspi_operation.specs.Follows.{askedFor, lengthsOf, Shows, opAfter, Follows, Begun}
-use Rattle.qspi_operation.proofs.Verdicts.{no}
 use Rattle.qspi_operation.proofs.Passes.{going-is}
 use Rattle.qspi_operation.proofs.Runs.{stored-kept}
 use Rattle.qspi_operation.proofs.PointLaws.{reads-last, reads-few, stays}

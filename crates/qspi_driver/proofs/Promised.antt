@@ -1,7 +1,7 @@
 -- What the driver promises over lists, out of what it says by counters. Assumes nothing.
 use Prim.Native.Nat.{ℕ}
 use mathlib.Core.Path.{_≡_, refl, ap, subst, _∙_, sym}
-use mathlib.Core.Bool.{Bool, true, false}
+use mathlib.Core.Bool.{Bool, false}
 use mathlib.Core.List.{List, [], _∷_}
 use lib.ListN.{length}
 use Rattle.zedboard_bsp.specs.Words.{topByte}
@@ -14,21 +14,19 @@ use Rattle.qspi_script.specs.declared.Status.the-variants.{Going, Done, OutOfRa
 use Rattle.qspi_operation.specs.declared.Op.{Op}
 use Rattle.qspi_operation.specs.declared.Reply.{Reply}
 use Rattle.qspi_operation.specs.declared.Stepped.{Stepped}
-use Rattle.qspi_operation.specs.Run as by-counters
-use Rattle.qspi_operation.specs.Run.{Run, runOf}
-use Rattle.qspi_operation.specs.Step.{isGoing, stepOf, logOf, bufferOf, programmedOf}
+use Rattle.qspi_operation.specs.Run.{runOf}
+use Rattle.qspi_operation.specs.Step.{isGoing, stepOf, logOf, bufferOf}
 use Rattle.qspi_operation.specs.Follows.{Begun, StepFollows, answerOf}
 use Rattle.qspi_operation.proofs.Verdicts.{Promised}
 use Rattle.qspi_operation.proofs.Following.{shows, on-step, on-run}
 use Rattle.qspi_calls.specs.Promise.{keptOf, givenOf}
 use Rattle.power_cut.proofs.Stepped.{saving-begins, step-saves}
-use Rattle.qspi_driver.specs.State.{holds, begunIf, begunOf, actedBy, steppedOf, progressOf, valuesGiven, answeredIn, clockIn}
-use Rattle.qspi_driver.specs.Driver.{Driver, Drive, drivenIf, drivenOf, reached}
+use Rattle.qspi_driver.specs.State.{begunIf, begunOf, steppedOf, progressOf, valuesGiven, answeredIn, clockIn}
+use Rattle.qspi_driver.specs.Driver.{Driver, Drive, drivenIf, drivenOf}
 use Rattle.qspi_driver.specs.Promise.{Started, Steps, AnswerFollows, Drives}
 use Rattle.qspi_driver.specs.declared.Driven.{Driven}
 use Rattle.qspi_driver.specs.declared.state.State.{State}
 use Rattle.qspi_driver.specs.declared.state.Acted.{Acted}
-use Rattle.qspi_driver.specs.declared.state.Answer.the-variants.{Given}
 use Rattle.qspi_driver.specs.declared.state.Progress.{Progress}
 
 -- ---- a start

@@ -4,7 +4,7 @@ use mathlib.Core.Path.{_≡_, refl, sym, ap, subst, _∙_}
 use mathlib.Core.Bool.{Bool, true, false, not, _&&_}
 use mathlib.Core.List.{List, [], _∷_, _++_, append-nil, append-assoc}
 use native.Mathlib.Omega.{arith}
-use lib.Dec.{eqb, leb}
+use lib.Dec.{leb}
 use lib.ListN.{length, length-append}
 use lib.Seq.{sets}
 use borrow.Author.Tests.{eq-eqb}
@@ -34,10 +34,10 @@ use Rattle.qspi_operation.specs.Step.{isGoing, accessOf, shown, answered
 use Rattle.qspi_operation.specs.Run.{Run, here, runAt, runOf, fuel, Ran}
 use Rattle.qspi_operation.specs.Pass.{left}
 use Rattle.qspi_operation.specs.Points.{Lending, sameAs, Point, wanted, stepAt, accessAt, loggedAt, rest, endOf, ranAt, answerAt, changedAt}
-use Rattle.qspi_operation.specs.Follows.{answerOf, answerWith, answerBy, askedFor, lengthsOf, Shows, Follows, Leaves, Steps, OnStep, StepFollows, OnDue, DueFollows, Runs, OnRun, RunFollows}
+use Rattle.qspi_operation.specs.Follows.{answerWith, answerBy, askedFor, lengthsOf, Shows, Follows, Leaves, StepFollows, DueFollows, Runs, RunFollows}
 use Rattle.qspi_operation.specs.Orders.{before}
 use Rattle.qspi_operation.proofs.Rules as rules
-use Rattle.qspi_operation.proofs.Verdicts.{no, Promised, replied}
+use Rattle.qspi_operation.proofs.Verdicts.{no, Promised}
 use Rattle.qspi_operation.proofs.Runs.{halted, kept, buffer-kept, left-le, again, less, run-ends, step-job}
 use Rattle.qspi_operation.proofs.PointLaws.{made-more, logs-more, restIf, restAt, before-is, step-rest}
 

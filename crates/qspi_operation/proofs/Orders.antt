@@ -13,14 +13,14 @@ use Rattle.zynq7000.specs.declared.qspi.Access.{Access}
 use Rattle.zynq7000.specs.declared.qspi.Access.the-variants as access
 use Rattle.zynq7000.proofs.AccessLaws.{length-encode}
 use Rattle.qspi_script.specs.declared.Status.{Status}
-use Rattle.qspi_script.specs.declared.Status.the-variants.{Going, Done, RepliesEnded, LogFull}
+use Rattle.qspi_script.specs.declared.Status.the-variants.{Done, RepliesEnded, LogFull}
 use Rattle.qspi_script.specs.Answer.{saidBy}
 use Rattle.qspi_operation.specs.declared.Op.{Op}
 use Rattle.qspi_operation.specs.declared.Reply.{Reply}
 use Rattle.qspi_operation.specs.declared.Reply.the-variants.{Word, Nothing}
 use Rattle.qspi_operation.specs.declared.Stepped.{Stepped}
 use Rattle.qspi_operation.specs.Machine.{Want, reads, writes, nothing, State, want, next, statusIn, valuesIn, bytesIn, countIn, overlaid, readsOf, repliesOf, Script, begin, Result, halt, logging, noRoom, made, runs, called, Matches, m-read, m-write, Makes, after}
-use Rattle.qspi_operation.specs.Points.{Lending, sameAs, Point, reached, outset, wanted, unlessOver, tried, filled, roomFor, stepAt, accessAt, loggedAt, rest, ranAt, ranLog, answerAt, answeredOf}
+use Rattle.qspi_operation.specs.Points.{Lending, sameAs, Point, reached, outset, tried, filled, roomFor, stepAt, accessAt, rest, ranAt}
 use Rattle.qspi_operation.specs.Follows.{Follows, Begun, Leaves, StepFollows, RunFollows}
 use Rattle.qspi_operation.specs.Orders.{History, begun, stepped, ran, beside, ran-beside, queried, before, Stands, InOrder}
 use Rattle.qspi_operation.specs.Step.{isGoing}

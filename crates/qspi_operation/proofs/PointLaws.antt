@@ -1,7 +1,7 @@
 -- A call over lists between two steps: what a step adds to the accesses made, and that a run is its first step and the run from there. Assumes nothing.
 use mathlib.Core.Path.{_≡_, refl, ap, _∙_, sym}
 use mathlib.Core.Bool.{Bool, true, false}
-use mathlib.Core.List.{List, [], _∷_, _++_, append-nil, append-assoc}
+use mathlib.Core.List.{List, [], _∷_, _++_, append-nil}
 use Prim.Native.Nat.{ℕ, zero, suc, _+_, _-_, _*_, _/_, _≤_, _<_}
 use native.Mathlib.Omega.{arith}
 use lib.Dec.{ltb, leb}
@@ -12,11 +12,10 @@ use Rattle.zynq7000.specs.Access.{encode}
 use Rattle.zynq7000.specs.declared.qspi.Access.{Access}
 use Rattle.zynq7000.specs.declared.qspi.Access.the-variants as access
 use Rattle.zynq7000.proofs.AccessLaws.{length-encode}
-use Rattle.qspi_script.specs.declared.Status.the-variants.{RepliesEnded, LogFull}
 use Rattle.qspi_operation.specs.declared.Reply.{Reply}
 use Rattle.qspi_operation.specs.declared.Reply.the-variants.{Word, Nothing}
-use Rattle.qspi_operation.specs.Machine.{Want, reads, writes, nothing, State, going, ended, want, next, statusIn, Result, halt, logging, noRoom, made, runs, readsOf}
-use Rattle.qspi_operation.specs.Points.{Point, reached, halted, wanted, unlessOver, tried, filled, roomFor, stepAt, accessIf, accessAt, loggedAt, rest, endOf}
+use Rattle.qspi_operation.specs.Machine.{Want, reads, writes, nothing, State, going, ended, want, next, statusIn, Result, halt, logging, made, runs, readsOf}
+use Rattle.qspi_operation.specs.Points.{Point, reached, wanted, tried, filled, roomFor, stepAt, accessIf, accessAt, rest}
 use Rattle.qspi_operation.specs.Orders.{before}
 use Rattle.qspi_operation.specs.Step.{isGoing, replyOf, pickReply}
 use Rattle.qspi_operation.proofs.Verdicts.{no}

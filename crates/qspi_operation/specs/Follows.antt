@@ -1,6 +1,6 @@
 -- That an operation follows a call over lists, step by step: whatever replies it is handed, after any number of steps, it shows what the call over lists shows. A reader of the contracts
 -- need not look into `Follows`: a start gives it, each step and each run keeps it, and what they answer and leave in the lent memory is said over lists.
-use Prim.Native.Nat.{ℕ, _*_}
+use Prim.Native.Nat.{ℕ}
 use mathlib.Core.Path.{_≡_}
 use mathlib.Core.Bool.{true, false, not, _&&_}
 use mathlib.Core.List.{List, [], _∷_}
