@@ -114,11 +114,11 @@ read-fast-read a dummy = with-buffer (start.readOf a true dummy) (call.read true
 pub initialize : (c : ClockConfig) (phase : Bool) (polarity : Bool) → OnlyLog (start.initializeOf c phase polarity) (call.initialize c phase polarity)
 initialize c phase polarity = only-log (start.initializeOf c phase polarity) (call.initialize c phase polarity) (low.initialize c phase polarity)
 
-pub enable-linear-addressing : (word : ℕ) → OnlyLog (start.registersOf sequence.EnableLinearAddressing word gives.Nothing) (call.enableLinearAddressing word)
-enable-linear-addressing word = only-log (start.registersOf sequence.EnableLinearAddressing word gives.Nothing) (call.enableLinearAddressing word) (low.enable-linear-addressing word)
+pub enable-linear-addressing : (word : ℕ) → OnlyLog (start.registersOf sequence.EnableLinearAddressing word gives.Nothing 0) (call.enableLinearAddressing word)
+enable-linear-addressing word = only-log (start.registersOf sequence.EnableLinearAddressing word gives.Nothing 0) (call.enableLinearAddressing word) (low.enable-linear-addressing word)
 
 pub enable-io-mode : (dual : Bool) → OnlyLog (start.enableIoMode dual) (call.enableIoMode dual)
 enable-io-mode dual = only-log (start.enableIoMode dual) (call.enableIoMode dual) (low.enable-io-mode dual)
 
-pub disable : OnlyLog (start.registersOf sequence.Disable 0 gives.Nothing) call.disable
-disable = only-log (start.registersOf sequence.Disable 0 gives.Nothing) call.disable low.disable
+pub disable : OnlyLog (start.registersOf sequence.Disable 0 gives.Nothing 0) call.disable
+disable = only-log (start.registersOf sequence.Disable 0 gives.Nothing 0) call.disable low.disable

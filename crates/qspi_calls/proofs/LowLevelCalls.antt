@@ -61,27 +61,27 @@ data LowAt (word : ℕ) : Sequence → Wire → Midway → Action → List Actio
   d-1 : {c : ℕ} → LowAt word Disable (registers c 1) first (modify chipSelectHigh) []
   d-2 : {v : ℕ} → LowAt word Disable (registers v 2) (changed (chipSelectHigh v)) (modify chipSelectHigh) []
 
-module _ (s : Sequence) (word : ℕ) (k : Gives) (log : List ℕ) (vs : List ℕ) (value : (w : Wire) → saidBy Done (given (start.registersJob s word k (length log)) w) ≡ saidBy Done vs) where
+module _ (s : Sequence) (word : ℕ) (k : Gives) (t : ℕ) (log : List ℕ) (vs : List ℕ) (value : (w : Wire) → saidBy Done (given (start.registersJob s word k t (length log)) w) ≡ saidBy Done vs) where
   data Rel : Place → Wire → Status → State → Type 0 where
     low-on : {w : Wire} {m : Midway} {a : Action} {l : List Action} → LowAt word s w m a l → Rel here w Going (going m a l [] none (λ rs. ends Done vs) [] 0)
-    low-over : {p : Place} {w : Wire} {a : Status} {us : List ℕ} → isGoing a ≡ false → ((v : Wire) → saidBy a (given (start.registersJob s word k (length log)) v) ≡ saidBy a us) → Rel p w a (ended a us [] 0)
+    low-over : {p : Place} {w : Wire} {a : Status} {us : List ℕ} → isGoing a ≡ false → ((v : Wire) → saidBy a (given (start.registersJob s word k t (length log)) v) ≡ saidBy a us) → Rel p w a (ended a us [] 0)
 
-due-at : (s : Sequence) (word : ℕ) (k : Gives) (n : ℕ) {w : Wire} {m : Midway} {a : Action} {l : List Action} → LowAt word s w m a l → accessOf (start.registersJob s word k n) here w [] ≡ asked (wantAt m a)
-due-at s word k n i-0 = refl
-due-at s word k n l-0 = refl
-due-at s word k n l-1 = refl
-due-at s word k n a-0 = refl
-due-at s word k n a-1 = refl
-due-at s word k n a-2 = refl
-due-at s word k n a-3 = refl
-due-at s word k n o-0 = refl
-due-at s word k n o-1 = refl
-due-at s word k n o-2 = refl
-due-at s word k n o-3 = refl
-due-at s word k n o-4 = refl
-due-at s word k n d-0 = refl
-due-at s word k n d-1 = refl
-due-at s word k n d-2 = refl
+due-at : (s : Sequence) (word : ℕ) (k : Gives) (t : ℕ) (n : ℕ) {w : Wire} {m : Midway} {a : Action} {l : List Action} → LowAt word s w m a l → accessOf (start.registersJob s word k t n) here w [] ≡ asked (wantAt m a)
+due-at s word k t n i-0 = refl
+due-at s word k t n l-0 = refl
+due-at s word k t n l-1 = refl
+due-at s word k t n a-0 = refl
+due-at s word k t n a-1 = refl
+due-at s word k t n a-2 = refl
+due-at s word k t n a-3 = refl
+due-at s word k t n o-0 = refl
+due-at s word k t n o-1 = refl
+due-at s word k t n o-2 = refl
+due-at s word k t n o-3 = refl
+due-at s word k t n o-4 = refl
+due-at s word k t n d-0 = refl
+due-at s word k t n d-1 = refl
+due-at s word k t n d-2 = refl
 
 some-at : {s : Sequence} {word : ℕ} {w : Wire} {m : Midway} {a : Action} {l : List Action} → LowAt word s w m a l → wantAt m a ≡ nothing → ⊥
 some-at i-0 e = let z : _≡_ {A = ℕ} 0 1 = cc in omega arith
@@ -100,51 +100,51 @@ some-at d-0 e = let z : _≡_ {A = ℕ} 0 1 = cc in omega arith
 some-at d-1 e = let z : _≡_ {A = ℕ} 0 1 = cc in omega arith
 some-at d-2 e = let z : _≡_ {A = ℕ} 0 1 = cc in omega arith
 
-step-at : (s : Sequence) (word : ℕ) (k : Gives) (log vs : List ℕ) (value : (w : Wire) → saidBy Done (given (start.registersJob s word k (length log)) w) ≡ saidBy Done vs)
+step-at : (s : Sequence) (word : ℕ) (k : Gives) (t : ℕ) (log vs : List ℕ) (value : (w : Wire) → saidBy Done (given (start.registersJob s word k t (length log)) w) ≡ saidBy Done vs)
     {w : Wire} {m : Midway} {a : Action} {l : List Action} (v : ℕ) → LowAt word s w m a l
-    → Rel s word k log vs value (after (start.registersJob s word k (length log)) here w v .place) (after (start.registersJob s word k (length log)) here w v .wire) (after (start.registersJob s word k (length log)) here w v .status) (next (going m a l [] none (λ rs. ends Done vs) [] 0) v)
-step-at s word k log vs value v i-0 = low-over refl value
-step-at s word k log vs value v l-0 = low-on l-1
-step-at s word k log vs value v l-1 = low-over refl value
-step-at s word k log vs value v a-0 = low-on a-1
-step-at s word k log vs value v a-1 = low-on a-2
-step-at s word k log vs value v a-2 = low-on a-3
-step-at s word k log vs value v a-3 = low-over refl value
-step-at s word k log vs value v o-0 = low-on o-1
-step-at s word k log vs value v o-1 = low-on o-2
-step-at s word k log vs value v o-2 = low-on o-3
-step-at s word k log vs value v o-3 = low-on o-4
-step-at s word k log vs value v o-4 = low-over refl value
-step-at s word k log vs value v d-0 = low-on d-1
-step-at s word k log vs value v d-1 = low-on d-2
-step-at s word k log vs value v d-2 = low-over refl value
+    → Rel s word k t log vs value (after (start.registersJob s word k t (length log)) here w v .place) (after (start.registersJob s word k t (length log)) here w v .wire) (after (start.registersJob s word k t (length log)) here w v .status) (next (going m a l [] none (λ rs. ends Done vs) [] 0) v)
+step-at s word k t log vs value v i-0 = low-over refl value
+step-at s word k t log vs value v l-0 = low-on l-1
+step-at s word k t log vs value v l-1 = low-over refl value
+step-at s word k t log vs value v a-0 = low-on a-1
+step-at s word k t log vs value v a-1 = low-on a-2
+step-at s word k t log vs value v a-2 = low-on a-3
+step-at s word k t log vs value v a-3 = low-over refl value
+step-at s word k t log vs value v o-0 = low-on o-1
+step-at s word k t log vs value v o-1 = low-on o-2
+step-at s word k t log vs value v o-2 = low-on o-3
+step-at s word k t log vs value v o-3 = low-on o-4
+step-at s word k t log vs value v o-4 = low-over refl value
+step-at s word k t log vs value v d-0 = low-on d-1
+step-at s word k t log vs value v d-1 = low-on d-2
+step-at s word k t log vs value v d-2 = low-over refl value
 
-kept-at : (s : Sequence) (word : ℕ) (k : Gives) (n v : ℕ) (buffer : List ℕ) {w : Wire} {m : Midway} {a : Action} {l : List Action} → LowAt word s w m a l → stored (start.registersJob s word k n) here w v buffer ≡ buffer
-kept-at s word k n v buffer i-0 = refl
-kept-at s word k n v buffer l-0 = refl
-kept-at s word k n v buffer l-1 = refl
-kept-at s word k n v buffer a-0 = refl
-kept-at s word k n v buffer a-1 = refl
-kept-at s word k n v buffer a-2 = refl
-kept-at s word k n v buffer a-3 = refl
-kept-at s word k n v buffer o-0 = refl
-kept-at s word k n v buffer o-1 = refl
-kept-at s word k n v buffer o-2 = refl
-kept-at s word k n v buffer o-3 = refl
-kept-at s word k n v buffer o-4 = refl
-kept-at s word k n v buffer d-0 = refl
-kept-at s word k n v buffer d-1 = refl
-kept-at s word k n v buffer d-2 = refl
+kept-at : (s : Sequence) (word : ℕ) (k : Gives) (t : ℕ) (n v : ℕ) (buffer : List ℕ) {w : Wire} {m : Midway} {a : Action} {l : List Action} → LowAt word s w m a l → stored (start.registersJob s word k t n) here w v buffer ≡ buffer
+kept-at s word k t n v buffer i-0 = refl
+kept-at s word k t n v buffer l-0 = refl
+kept-at s word k t n v buffer l-1 = refl
+kept-at s word k t n v buffer a-0 = refl
+kept-at s word k t n v buffer a-1 = refl
+kept-at s word k t n v buffer a-2 = refl
+kept-at s word k t n v buffer a-3 = refl
+kept-at s word k t n v buffer o-0 = refl
+kept-at s word k t n v buffer o-1 = refl
+kept-at s word k t n v buffer o-2 = refl
+kept-at s word k t n v buffer o-3 = refl
+kept-at s word k t n v buffer o-4 = refl
+kept-at s word k t n v buffer d-0 = refl
+kept-at s word k t n v buffer d-1 = refl
+kept-at s word k t n v buffer d-2 = refl
 
-module _ (s : Sequence) (word : ℕ) (k : Gives) (log : List ℕ) (vs : List ℕ) (value : (w : Wire) → saidBy Done (given (start.registersJob s word k (length log)) w) ≡ saidBy Done vs) where
+module _ (s : Sequence) (word : ℕ) (k : Gives) (t : ℕ) (log : List ℕ) (vs : List ℕ) (value : (w : Wire) → saidBy Done (given (start.registersJob s word k t (length log)) w) ≡ saidBy Done vs) where
   abbrev R : Place → Wire → Status → State → Type 0
-  R = Rel s word k log vs value
+  R = Rel s word k t log vs value
 
   abbrev job₁ : Job
-  job₁ = start.registersJob s word k (length log)
+  job₁ = start.registersJob s word k t (length log)
 
   r-due : (p : Place) (w : Wire) (z : State) → R p w Going z → accessOf job₁ p w [] ≡ asked (want z)
-  r-due p w z (low-on q) = due-at s word k (length log) q
+  r-due p w z (low-on q) = due-at s word k t (length log) q
   r-due p w z (low-over g f) = no (sym g)
 
   r-some : (p : Place) (w : Wire) (z : State) → R p w Going z → want z ≡ nothing → ⊥
@@ -164,7 +164,7 @@ module _ (s : Sequence) (word : ℕ) (k : Gives) (log : List ℕ) (vs : List ℕ
   r-counts p w a z (low-over g f) = refl
 
   r-steps : (p : Place) (w : Wire) (z : State) (v : ℕ) → R p w Going z → R (after job₁ p w v .place) (after job₁ p w v .wire) (after job₁ p w v .status) (next z v)
-  r-steps p w z v (low-on q) = step-at s word k log vs value v q
+  r-steps p w z v (low-on q) = step-at s word k t log vs value v q
   r-steps p w z v (low-over g f) = no (sym g)
 
   r-bytes : {p : Place} {w : Wire} {a : Status} {z : State} → R p w a z → bytesIn z ≡ []
@@ -172,7 +172,7 @@ module _ (s : Sequence) (word : ℕ) (k : Gives) (log : List ℕ) (vs : List ℕ
   r-bytes (low-over g f) = refl
 
   r-kept : (p : Place) (w : Wire) (z : State) (v : ℕ) (buffer : List ℕ) → R p w Going z → stored job₁ p w v buffer ≡ buffer
-  r-kept p w z v buffer (low-on q) = kept-at s word k (length log) v buffer q
+  r-kept p w z v buffer (low-on q) = kept-at s word k t (length log) v buffer q
   r-kept p w z v buffer (low-over g f) = no (sym g)
 
   r-keeps : (p : Place) (w : Wire) (z : State) (v : ℕ) → R p w Going z → stored job₁ p w v (overlaid (bytesIn z) []) ≡ overlaid (bytesIn (next z v)) []
@@ -181,7 +181,7 @@ module _ (s : Sequence) (word : ℕ) (k : Gives) (log : List ℕ) (vs : List ℕ
   r-tie : Tie job₁ [] [] R
   r-tie = record { due = r-due; some = r-some; steps = r-steps; over = r-ends; values = r-values; counts = r-counts; keeps = r-keeps }
 
-  low-starts : (a : Action) (l : List Action) → LowAt word s (registers 0 0) first a l → Starts (start.registersOf s word k (length log)) [] log [] (perform a l none (λ rs. ends Done vs))
+  low-starts : (a : Action) (l : List Action) → LowAt word s (registers 0 0) first a l → Starts (start.registersOf s word k t (length log)) [] log [] (perform a l none (λ rs. ends Done vs))
   low-starts a l q = record {
     job = job₁;
     place = here;
@@ -197,14 +197,14 @@ module _ (s : Sequence) (word : ℕ) (k : Gives) (log : List ℕ) (vs : List ℕ
     unread = refl;
   }
 
-pub enable-linear-addressing : (word : ℕ) (log : List ℕ) → Starts (start.registersOf EnableLinearAddressing word gives.Nothing (length log)) [] log [] (call.enableLinearAddressing word)
-enable-linear-addressing word log = low-starts EnableLinearAddressing word gives.Nothing log [] (λ w. refl) _ _ a-0
+pub enable-linear-addressing : (word : ℕ) (log : List ℕ) → Starts (start.registersOf EnableLinearAddressing word gives.Nothing 0 (length log)) [] log [] (call.enableLinearAddressing word)
+enable-linear-addressing word log = low-starts EnableLinearAddressing word gives.Nothing 0 log [] (λ w. refl) _ _ a-0
 
 pub enable-io-mode : (dual : Bool) (log : List ℕ) → Starts (start.enableIoMode dual (length log)) [] log [] (call.enableIoMode dual)
-enable-io-mode dual log = low-starts EnableIoMode (linearWord (ioModeConfig dual)) gives.Nothing log [] (λ w. refl) _ _ o-0
+enable-io-mode dual log = low-starts EnableIoMode (linearWord (ioModeConfig dual)) gives.Nothing 0 log [] (λ w. refl) _ _ o-0
 
-pub disable : (log : List ℕ) → Starts (start.registersOf Disable 0 gives.Nothing (length log)) [] log [] call.disable
-disable log = low-starts Disable 0 gives.Nothing log [] (λ w. refl) _ _ d-0
+pub disable : (log : List ℕ) → Starts (start.registersOf Disable 0 gives.Nothing 0 (length log)) [] log [] call.disable
+disable log = low-starts Disable 0 gives.Nothing 0 log [] (λ w. refl) _ _ d-0
 
 module _ (c : ClockConfig) (phase polarity : Bool) (log : List ℕ) where
   abbrev word : ℕ
@@ -214,14 +214,14 @@ module _ (c : ClockConfig) (phase polarity : Bool) (log : List ℕ) where
   abbrev clock : ℕ
   clock = clockControlWord (c .«ref_clk_div») (sourceCode (c .«src_sel»)) 1
 
-  with-loopback : (b : BaudRateConfig) → Starts (start.registersOf (start.initializing b) word (gives.Clock clock) (length log)) [] log [] (perform (write 0x00 word) (map (write 0x38) (loopbackWords b)) none (λ rs. ends Done (clock ∷ [])))
-  with-loopback WithLoopback = low-starts InitializeWithLoopback word (gives.Clock clock) log (clock ∷ []) (λ w. refl) _ _ l-0
-  with-loopback (WithoutLoopback d) = low-starts Initialize word (gives.Clock clock) log (clock ∷ []) (λ w. refl) _ _ i-0
+  with-loopback : (b : BaudRateConfig) → Starts (start.registersOf (start.initializing b) word gives.Clock clock (length log)) [] log [] (perform (write 0x00 word) (map (write 0x38) (loopbackWords b)) none (λ rs. ends Done (clock ∷ [])))
+  with-loopback WithLoopback = low-starts InitializeWithLoopback word gives.Clock clock log (clock ∷ []) (λ w. refl) _ _ l-0
+  with-loopback (WithoutLoopback d) = low-starts Initialize word gives.Clock clock log (clock ∷ []) (λ w. refl) _ _ i-0
 
   pub initialize : Starts (start.initializeOf c phase polarity (length log)) [] log [] (call.initialize c phase polarity)
   initialize = go (ltb 63 (c .«ref_clk_div»))
     where
-      go : (b : Bool) → Starts (start.pick b (start.over (start.registersJob Initialize 0 gives.Nothing (length log)) FieldTooWide) (start.registersOf (start.initializing (c .«baud_rate_config»)) word (gives.Clock clock) (length log))) [] log []
+      go : (b : Bool) → Starts (start.pick b (start.over (start.registersJob Initialize 0 gives.Nothing 0 (length log)) FieldTooWide) (start.registersOf (start.initializing (c .«baud_rate_config»)) word gives.Clock clock (length log))) [] log []
           (onward b (refused FieldTooWide) (perform (write 0x00 word) (map (write 0x38) (loopbackWords (c .«baud_rate_config»))) none (λ rs. ends Done (clock ∷ []))))
-      go true = ended-at-start (start.registersJob Initialize 0 gives.Nothing (length log)) [] log [] FieldTooWide refl (λ w. refl) refl refl refl
+      go true = ended-at-start (start.registersJob Initialize 0 gives.Nothing 0 (length log)) [] log [] FieldTooWide refl (λ w. refl) refl refl refl
       go false = with-loopback (c .«baud_rate_config»)

@@ -51,7 +51,7 @@ after job p w v = moved (record { job = job; place = p; wire = w; used = 0; repl
 
 -- the values that a call gives where it is done
 abbrev pub given : Job → Wire → List ℕ
-given job w = valuesOf (job .script .gives) (w .older) (w .old) (w .last)
+given job w = valuesOf (job .script .gives) (job .«low_level» .clock) (w .older) (w .old) (w .last)
 
 -- the two together: place, wire and status by counters, and a state over lists
 pub record Tie (job : Job) (bytes buffer₀ : List ℕ) (Rel : Place → Wire → Status → State → Type 0) : Type 0 where

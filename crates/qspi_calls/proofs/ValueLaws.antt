@@ -31,11 +31,11 @@ by-done LogFull P d n = n
 by-done LentLengthChanged P d n = n
 
 -- the one value
-pub one-value : (a : Status) (g : Gives) (x y z : ℕ) → oneOf (valuesOf (givenOf a g) x y z) ≡ oneOf (valuesIn (saidBy a (valuesOf g x y z)))
-one-value a g x y z = by-done a (λ (b : Bool) (f : List ℕ → List ℕ). oneOf (valuesOf (cond b g gives.Nothing) x y z) ≡ oneOf (f (valuesOf g x y z))) refl refl
+pub one-value : (a : Status) (g : Gives) (k x y z : ℕ) → oneOf (valuesOf (givenOf a g) k x y z) ≡ oneOf (valuesIn (saidBy a (valuesOf g k x y z)))
+one-value a g k x y z = by-done a (λ (b : Bool) (f : List ℕ → List ℕ). oneOf (valuesOf (cond b g gives.Nothing) k x y z) ≡ oneOf (f (valuesOf g k x y z))) refl refl
 
 -- of what is handed back, once it is known what the call gives
-pub value-is : (s : Stepped) {k : Gives} {v : ℕ} → k ≡ givenOf (s .answer) (s .op .job .script .gives) → v ≡ oneOf (valuesOf k (s .op .wire .older) (s .op .wire .old) (s .op .wire .last)) → v ≡ oneOf (valuesIn (answerBy s .says))
+pub value-is : (s : Stepped) {k : Gives} {v : ℕ} → k ≡ givenOf (s .answer) (s .op .job .script .gives) → v ≡ oneOf (valuesOf k (s .op .job .«low_level» .clock) (s .op .wire .older) (s .op .wire .old) (s .op .wire .last)) → v ≡ oneOf (valuesIn (answerBy s .says))
 value-is s e f =
-    f ∙ ap (λ (z : Gives). oneOf (valuesOf z (s .op .wire .older) (s .op .wire .old) (s .op .wire .last))) e
-    ∙ one-value (s .answer) (s .op .job .script .gives) (s .op .wire .older) (s .op .wire .old) (s .op .wire .last)
+    f ∙ ap (λ (z : Gives). oneOf (valuesOf z (s .op .job .«low_level» .clock) (s .op .wire .older) (s .op .wire .old) (s .op .wire .last))) e
+    ∙ one-value (s .answer) (s .op .job .script .gives) (s .op .job .«low_level» .clock) (s .op .wire .older) (s .op .wire .old) (s .op .wire .last)

@@ -54,7 +54,7 @@ abbrev pub nothingWanted : Wanted
 nothingWanted = record { quad = false; «set_latency» = false; latency = 0; clear = false; protection = 0 }
 
 abbrev pub noRegisters : LowLevel
-noRegisters = record { sequence = sequence.Disable; word = 0 }
+noRegisters = record { sequence = sequence.Disable; word = 0; clock = 0 }
 
 abbrev pub lent : ℕ → ℕ → ℕ → Lent
 lent d b l = record { «data» = d; buffer = b; log = l }
@@ -76,9 +76,9 @@ abbrev pub readingJob : ℕ → Bool → Bool → ℕ → ℕ → Job
 readingJob a fast dummy n log =
     record { lent = lent 0 n log; script = plain gives.Nothing; addr = a; reading = record { fast = fast; dummy = dummy }; wanted = nothingWanted; «low_level» = noRegisters }
 
-abbrev pub registersJob : Sequence → ℕ → Gives → ℕ → Job
-registersJob s w given log =
-    record { lent = lent 0 0 log; script = plain given; addr = 0; reading = notReading; wanted = nothingWanted; «low_level» = record { sequence = s; word = w } }
+abbrev pub registersJob : Sequence → ℕ → Gives → ℕ → ℕ → Job
+registersJob s w given clock log =
+    record { lent = lent 0 0 log; script = plain given; addr = 0; reading = notReading; wanted = nothingWanted; «low_level» = record { sequence = s; word = w; clock = clock } }
 
 -- ---- where it begins
 
@@ -177,9 +177,9 @@ readOf a fast dummy n log =
 
 -- ---- calls that send nothing
 
-abbrev pub registersOf : Sequence → ℕ → Gives → ℕ → Op
-registersOf s w given log =
-    record { job = registersJob s w given log; place = placeAt stage.Registers 0 0 0; wire = freshWire phase.Registers; used = 0; replies = 0; status = status.Going }
+abbrev pub registersOf : Sequence → ℕ → Gives → ℕ → ℕ → Op
+registersOf s w given clock log =
+    record { job = registersJob s w given clock log; place = placeAt stage.Registers 0 0 0; wire = freshWire phase.Registers; used = 0; replies = 0; status = status.Going }
 
 abbrev pub initializing : BaudRateConfig → Sequence
 initializing WithLoopback = sequence.InitializeWithLoopback
@@ -187,10 +187,11 @@ initializing (WithoutLoopback d) = sequence.Initialize
 
 abbrev pub initializeOf : ClockConfig → Bool → Bool → ℕ → Op
 initializeOf c phase₁ polarity log =
-    pick (ltb 63 (c .«ref_clk_div»)) (over (registersJob sequence.Initialize 0 gives.Nothing log) status.FieldTooWide)
+    pick (ltb 63 (c .«ref_clk_div»)) (over (registersJob sequence.Initialize 0 gives.Nothing 0 log) status.FieldTooWide)
     (registersOf (initializing (c .«baud_rate_config»)) (configWord (initialConfig (baudOf (c .«baud_rate_config»)) phase₁ polarity))
-    (gives.Clock (clockControlWord (c .«ref_clk_div») (sourceCode (c .«src_sel»)) 1))
+    gives.Clock
+    (clockControlWord (c .«ref_clk_div») (sourceCode (c .«src_sel»)) 1)
     log)
 
 abbrev pub enableIoMode : Bool → ℕ → Op
-enableIoMode dual log = registersOf sequence.EnableIoMode (linearWord (ioModeConfig dual)) gives.Nothing log
+enableIoMode dual log = registersOf sequence.EnableIoMode (linearWord (ioModeConfig dual)) gives.Nothing 0 log

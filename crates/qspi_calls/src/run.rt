@@ -67,6 +67,7 @@ pub fn value(s: Stepped) -> u32
     let job = op.job;
     let script = job.script;
     let gives = script.gives;
+    let low_level = job.low_level;
     let wire = op.wire;
     let answer = s.answer;
     match given(answer, gives) {
@@ -74,7 +75,7 @@ pub fn value(s: Stepped) -> u32
         Gives::Register => words::top_byte(wire.last) as u32,
         Gives::Id => 0,
         Gives::LongId => 0,
-        Gives::Clock(word) => word,
+        Gives::Clock => low_level.clock,
     }
 }
 

@@ -58,6 +58,7 @@ const NOTHING_WANTED: Wanted = Wanted {
 const NO_REGISTERS: LowLevel = LowLevel {
     sequence: Sequence::Disable,
     word: 0,
+    clock: 0,
 };
 
 // A script of one transfer, or of register accesses, and what the call gives.
@@ -519,15 +520,19 @@ pub fn read_fast_read(addr: u32, dummy_byte: bool, buffer: usize, log: usize) ->
 }
 
 // A call that sends nothing.
-fn registers_job(sequence: Sequence, word: u32, gives: Gives, log: usize) -> Job
-    ensures job { λ r. ⌜ r ≡ spec.registersJob sequence word gives log ⌝ }
+fn registers_job(sequence: Sequence, word: u32, gives: Gives, clock: u32, log: usize) -> Job
+    ensures job { λ r. ⌜ r ≡ spec.registersJob sequence word gives clock log ⌝ }
 {
     let lent = Lent {
         data: 0,
         buffer: 0,
         log,
     };
-    let low_level = LowLevel { sequence, word };
+    let low_level = LowLevel {
+        sequence,
+        word,
+        clock,
+    };
     let script = plain(gives);
     Job {
         lent,
@@ -539,10 +544,10 @@ fn registers_job(sequence: Sequence, word: u32, gives: Gives, log: usize) -> Job
     }
 }
 
-fn registers(sequence: Sequence, word: u32, gives: Gives, log: usize) -> Op
-    ensures start { λ r. ⌜ r ≡ spec.registersOf sequence word gives log ⌝ }
+fn registers(sequence: Sequence, word: u32, gives: Gives, clock: u32, log: usize) -> Op
+    ensures start { λ r. ⌜ r ≡ spec.registersOf sequence word gives clock log ⌝ }
 {
-    let job = registers_job(sequence, word, gives, log);
+    let job = registers_job(sequence, word, gives, clock, log);
     let wire = qspi_transfer::begin(Phase::Registers);
     let at = place(Stage::Registers, 0, 0, 0);
     Op {
@@ -573,24 +578,25 @@ pub fn initialize(clock_config: ClockConfig, phase: bool, polarity: bool, log: u
     let sequence = sequence_of(baud_rate_config);
     match zynq7000_hal::qspi::initialize_words(clock_config, phase, polarity) {
         Initialization::Words(words) => {
-            let gives = Gives::Clock(words.lqspi_clk_ctrl);
-            registers(sequence, words.config, gives, log)
+            let clock = words.lqspi_clk_ctrl;
+            registers(sequence, words.config, Gives::Clock, clock, log)
         }
         Initialization::FieldTooWide => over(
-            registers_job(Sequence::Initialize, 0, Gives::Nothing, log),
+            registers_job(Sequence::Initialize, 0, Gives::Nothing, 0, log),
             Status::FieldTooWide,
         ),
     }
 }
 
 pub fn enable_linear_addressing(config: u32, log: usize) -> Op
-    ensures start { λ r. ⌜ r ≡ spec.registersOf sequence.EnableLinearAddressing config gives.Nothing log ⌝ }
+    ensures start { λ r. ⌜ r ≡ spec.registersOf sequence.EnableLinearAddressing config gives.Nothing 0 log ⌝ }
     ensures begins { λ r. ⌜ Begins log (call.enableLinearAddressing config) r ⌝ }
 {
     registers(
         Sequence::EnableLinearAddressing,
         config,
         Gives::Nothing,
+        0,
         log,
     )
 }
@@ -600,12 +606,12 @@ pub fn enable_io_mode(dual_flash: bool, log: usize) -> Op
     ensures begins { λ r. ⌜ Begins log (call.enableIoMode «dual_flash») r ⌝ }
 {
     let config = zynq7000_hal::qspi::io_mode_config(dual_flash);
-    registers(Sequence::EnableIoMode, config.0, Gives::Nothing, log)
+    registers(Sequence::EnableIoMode, config.0, Gives::Nothing, 0, log)
 }
 
 pub fn disable(log: usize) -> Op
-    ensures start { λ r. ⌜ r ≡ spec.registersOf sequence.Disable 0 gives.Nothing log ⌝ }
+    ensures start { λ r. ⌜ r ≡ spec.registersOf sequence.Disable 0 gives.Nothing 0 log ⌝ }
     ensures begins { λ r. ⌜ Begins log call.disable r ⌝ }
 {
-    registers(Sequence::Disable, 0, Gives::Nothing, log)
+    registers(Sequence::Disable, 0, Gives::Nothing, 0, log)
 }

@@ -21,7 +21,7 @@ use Rattle.qspi_operation.proofs.Verdicts.{Promised}
 use Rattle.qspi_operation.proofs.Following.{shows, on-step, on-run}
 use Rattle.qspi_calls.specs.Promise.{keptOf, givenOf}
 use Rattle.power_cut.proofs.Stepped.{saving-begins, step-saves}
-use Rattle.qspi_driver.specs.State.{begunIf, begunOf, steppedOf, progressOf, valuesGiven, answeredIn, clockIn}
+use Rattle.qspi_driver.specs.State.{begunIf, begunOf, steppedOf, progressOf, valuesGiven, answeredIn}
 use Rattle.qspi_driver.specs.Driver.{Driver, Drive, drivenIf, drivenOf}
 use Rattle.qspi_driver.specs.Promise.{Started, Steps, AnswerFollows, Drives}
 use Rattle.qspi_driver.specs.declared.Driven.{Driven}
@@ -63,41 +63,41 @@ steps s bytes buffer log r {x} {buffer₁} {log₁} e f g =
 -- ---- the answer so far
 
 -- what a call has not given yet is not said
-not-yet : (a : Status) (g : Gives) (x y z : ℕ) → saidBy a (valuesOf (givenOf a g) (keptOf a x) (keptOf a y) (keptOf a z)) ≡ saidBy a (valuesOf g x y z)
-not-yet Going g x y z = refl
-not-yet Done g x y z = refl
-not-yet OutOfRange g x y z = refl
-not-yet Alignment g x y z = refl
-not-yet DataTooLarge g x y z = refl
-not-yet NotAligned g x y z = refl
-not-yet CrossesPageBoundary g x y z = refl
-not-yet AddressSpan g x y z = refl
-not-yet FieldTooWide g x y z = refl
-not-yet EraseErrorBitSet g x y z = refl
-not-yet ProgrammingErrorBitSet g x y z = refl
-not-yet RepliesEnded g x y z = refl
-not-yet LogFull g x y z = refl
-not-yet LentLengthChanged g x y z = refl
+not-yet : (a : Status) (g : Gives) (k x y z : ℕ) → saidBy a (valuesOf (givenOf a g) (keptOf a k) (keptOf a x) (keptOf a y) (keptOf a z)) ≡ saidBy a (valuesOf g k x y z)
+not-yet Going g k x y z = refl
+not-yet Done g k x y z = refl
+not-yet OutOfRange g k x y z = refl
+not-yet Alignment g k x y z = refl
+not-yet DataTooLarge g k x y z = refl
+not-yet NotAligned g k x y z = refl
+not-yet CrossesPageBoundary g k x y z = refl
+not-yet AddressSpan g k x y z = refl
+not-yet FieldTooWide g k x y z = refl
+not-yet EraseErrorBitSet g k x y z = refl
+not-yet ProgrammingErrorBitSet g k x y z = refl
+not-yet RepliesEnded g k x y z = refl
+not-yet LogFull g k x y z = refl
+not-yet LentLengthChanged g k x y z = refl
 
 pub answers : (o : Op) {r : Progress} → r ≡ progressOf o → (r ≡ progressOf o) × AnswerFollows o r
 answers o {r} e =
-    let y : answeredIn (progressOf o) ≡ answerOf o = rw (not-yet (o .status) (o .job .script .gives) (o .wire .older) (o .wire .old) (o .wire .last)) in
+    let y : answeredIn (progressOf o) ≡ answerOf o = rw (not-yet (o .status) (o .job .script .gives) (o .job .«low_level» .clock) (o .wire .older) (o .wire .old) (o .wire .last)) in
     (e, λ g p f. ap answeredIn e ∙ y ∙ shows g f .answer)
 
 -- ---- the values of an answer, by what the call gives
 
 module _ (p : Progress) where
   pub register-given : {r : ℕ} → r ≡ topByte (p .last) → (r ≡ topByte (p .last)) × (p .gives ≡ gives.Register → valuesGiven p ≡ r ∷ [])
-  register-given e = (e, λ g. ap (λ (z : Gives). valuesOf z (p .older) (p .old) (p .last)) g ∙ ap (λ (z : ℕ). z ∷ []) (sym e))
+  register-given e = (e, λ g. ap (λ (z : Gives). valuesOf z (p .clock) (p .older) (p .old) (p .last)) g ∙ ap (λ (z : ℕ). z ∷ []) (sym e))
 
   pub id-given : {bs : List ℕ} → bs ≡ replyBytes (p .last) → (bs ≡ replyBytes (p .last)) × (p .gives ≡ gives.Id → valuesGiven p ≡ bs)
-  id-given e = (e, λ g. ap (λ (z : Gives). valuesOf z (p .older) (p .old) (p .last)) g ∙ sym e)
+  id-given e = (e, λ g. ap (λ (z : Gives). valuesOf z (p .clock) (p .older) (p .old) (p .last)) g ∙ sym e)
 
   pub long-id-given : {bs : List ℕ} → bs ≡ longReplyBytes (p .older) (p .old) (p .last) → (bs ≡ longReplyBytes (p .older) (p .old) (p .last)) × (p .gives ≡ gives.LongId → valuesGiven p ≡ bs)
-  long-id-given e = (e, λ g. ap (λ (z : Gives). valuesOf z (p .older) (p .old) (p .last)) g ∙ sym e)
+  long-id-given e = (e, λ g. ap (λ (z : Gives). valuesOf z (p .clock) (p .older) (p .old) (p .last)) g ∙ sym e)
 
-  pub clock-given : {r : ℕ} → r ≡ clockIn (p .gives) → (r ≡ clockIn (p .gives)) × ((word : ℕ) → p .gives ≡ gives.Clock word → valuesGiven p ≡ r ∷ [])
-  clock-given e = (e, λ word g. ap (λ (z : Gives). valuesOf z (p .older) (p .old) (p .last)) g ∙ ap (λ (z : ℕ). z ∷ []) (sym (e ∙ ap clockIn g)))
+  pub clock-given : {r : ℕ} → r ≡ p .clock → (r ≡ p .clock) × (p .gives ≡ gives.Clock → valuesGiven p ≡ r ∷ [])
+  clock-given e = (e, λ g. ap (λ (z : Gives). valuesOf z (p .clock) (p .older) (p .old) (p .last)) g ∙ ap (λ (z : ℕ). z ∷ []) (sym e))
 
 -- ---- a whole call
 

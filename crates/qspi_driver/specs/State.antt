@@ -7,8 +7,6 @@ use Rattle.qspi_script.specs.Answer.{Answered, saidBy, valuesOf}
 use Rattle.qspi_script.specs.Answer as said
 use Rattle.qspi_script.specs.declared.Number.{Number}
 use Rattle.qspi_script.specs.declared.Number.the-variants.{Without}
-use Rattle.qspi_script.specs.declared.Gives.{Gives}
-use Rattle.qspi_script.specs.declared.Gives.the-variants as gives
 use Rattle.qspi_operation.specs.declared.Op.{Op}
 use Rattle.qspi_operation.specs.declared.Reply.{Reply}
 use Rattle.qspi_operation.specs.declared.Stepped.{Stepped}
@@ -52,6 +50,7 @@ progressOf o = record {
   replies = o .replies;
   programmed = programmedOf o;
   gives = givenOf (o .status) (o .job .script .gives);
+  clock = keptOf (o .status) (o .job .«low_level» .clock);
   older = keptOf (o .status) (o .wire .older);
   old = keptOf (o .status) (o .wire .old);
   last = keptOf (o .status) (o .wire .last);
@@ -59,18 +58,10 @@ progressOf o = record {
 
 -- the values that it gives, and the whole of it: number and values, used counts, bytes programmed
 abbrev pub valuesGiven : Progress → List ℕ
-valuesGiven p = valuesOf (p .gives) (p .older) (p .old) (p .last)
+valuesGiven p = valuesOf (p .gives) (p .clock) (p .older) (p .old) (p .last)
 
 abbrev pub answeredIn : Progress → Answered
 answeredIn p = record { says = saidBy (p .status) (valuesGiven p); used = p .used; replies = p .replies; programmed = p .programmed }
-
--- "Its SLCR clock word is returned"
-abbrev pub clockIn : Gives → ℕ
-clockIn gives.Nothing = 0
-clockIn gives.Register = 0
-clockIn gives.Id = 0
-clockIn gives.LongId = 0
-clockIn (gives.Clock word) = word
 
 abbrev pub isUnderWay : Answer → Bool
 isUnderWay (Given a) = isGoing a

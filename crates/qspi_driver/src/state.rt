@@ -4,12 +4,11 @@ ghost use mathlib.Core.Path.{_≡_};
 ghost use lib.ListN.{length};
 ghost use Rattle.zedboard_bsp.specs.Words.{topByte};
 ghost use Rattle.zedboard_bsp.specs.DeviceId.{baseBytes, extendedBytes, replyBytes, longReplyBytes};
-ghost use Prim.Native.Nat.{ℕ};
 ghost use mathlib.Core.List.{[], _∷_};
 ghost use Rattle.qspi_script.specs.declared.Gives.the-variants as gives;
 ghost use Rattle.qspi_operation.specs.Step.{dueOf, logOf, bufferOf, replyOf};
 ghost use Rattle.qspi_operation.specs.Follows.{DueFollows};
-ghost use Rattle.qspi_driver.specs.State.{numberIn, begunOf, actedBy, steppedOf, progressOf, valuesGiven, clockIn, isUnderWay};
+ghost use Rattle.qspi_driver.specs.State.{numberIn, begunOf, actedBy, steppedOf, progressOf, valuesGiven, isUnderWay};
 ghost use Rattle.qspi_driver.specs.Promise.{Started, Steps, AnswerFollows};
 use qspi_calls::run;
 use qspi_operation::Asked;
@@ -55,13 +54,15 @@ pub struct Acted {
 }
 
 // The answer so far: status, used counts (log words, replies), bytes programmed, and of a call that is
-// done what it gives, with the last three replies, of which a register's byte or an id is made.
+// done what it gives: the SLCR clock word, and the last three replies, of which a register's byte or an id
+// is made.
 pub struct Progress {
     pub status: Status,
     pub used: usize,
     pub replies: usize,
     pub programmed: usize,
     pub gives: Gives,
+    pub clock: u32,
     pub older: u32,
     pub old: u32,
     pub last: u32,
@@ -94,17 +95,10 @@ impl Progress {
 
     // The SLCR clock word of `initialize`; 0 for any other call.
     pub fn lqspi_clk_ctrl(self) -> u32
-        ensures word { λ r. ⌜ r ≡ clockIn (self .gives) ⌝ }
-        ensures value { λ r. ⌜ ((word : ℕ) → self .gives ≡ gives.Clock word → valuesGiven self ≡ r ∷ []) ⌝ }
+        ensures word { λ r. ⌜ r ≡ self .clock ⌝ }
+        ensures value { λ r. ⌜ (self .gives ≡ gives.Clock → valuesGiven self ≡ r ∷ []) ⌝ }
     {
-        let gives = self.gives;
-        match gives {
-            Gives::Nothing => 0,
-            Gives::Register => 0,
-            Gives::Id => 0,
-            Gives::LongId => 0,
-            Gives::Clock(word) => word,
-        }
+        self.clock
     }
 }
 
@@ -145,12 +139,14 @@ pub fn answer_so_far(state: State) -> Progress
     let job = op.job;
     let script = job.script;
     let gives = script.gives;
+    let low_level = job.low_level;
     Progress {
         status,
         used: op.used,
         replies: op.replies,
         programmed: qspi_operation::programmed(op),
         gives: run::given(status, gives),
+        clock: run::kept(status, low_level.clock),
         older: run::kept(status, wire.older),
         old: run::kept(status, wire.old),
         last: run::kept(status, wire.last),

@@ -22,7 +22,7 @@ use Rattle.qspi_operation.specs.Step.{isGoing, dueOf, stepOf, logOf, buf
 
 -- the values of an operation that is done: what its call gives, of its inputs or of the last three replies
 abbrev pub givenBy : Op → List ℕ
-givenBy o = valuesOf (o .job .script .gives) (o .wire .older) (o .wire .old) (o .wire .last)
+givenBy o = valuesOf (o .job .script .gives) (o .job .«low_level» .clock) (o .wire .older) (o .wire .old) (o .wire .last)
 
 -- an operation with an answer: its own, or that of a step or a run of it
 abbrev pub answerWith : Op → Status → Answered

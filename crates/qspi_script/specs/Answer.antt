@@ -34,14 +34,14 @@ saidBy status.RepliesEnded vs = said (paper.refused paper.RepliesEnded)
 saidBy status.LogFull vs = said (paper.refused paper.LogFull)
 saidBy status.LentLengthChanged vs = said (paper.refused paper.LentLengthChanged)
 
--- the values of a call that is done, by what it gives and its last three replies: "Status and config bytes are the top byte of the reply"; "one reply, its bytes 1 to 3"; "bytes 1
+-- the values of a call that is done, by what it gives, the clock word of its inputs and its last three replies: "Status and config bytes are the top byte of the reply"; "one reply, its bytes 1 to 3"; "bytes 1
 -- to 8 of three replies"; "Its SLCR clock word is returned"
-abbrev pub valuesOf : Gives → ℕ → ℕ → ℕ → List ℕ
-valuesOf gives.Nothing older old last = []
-valuesOf gives.Register older old last = topByte last ∷ []
-valuesOf gives.Id older old last = replyBytes last
-valuesOf gives.LongId older old last = longReplyBytes older old last
-valuesOf (gives.Clock word) older old last = word ∷ []
+abbrev pub valuesOf : Gives → ℕ → ℕ → ℕ → ℕ → List ℕ
+valuesOf gives.Nothing clock older old last = []
+valuesOf gives.Register clock older old last = topByte last ∷ []
+valuesOf gives.Id clock older old last = replyBytes last
+valuesOf gives.LongId clock older old last = longReplyBytes older old last
+valuesOf gives.Clock clock older old last = clock ∷ []
 
 -- the whole of an answer: what is said, with the call's own values (a register's byte, the bytes of an id, the SLCR word), "both used counts (log words, replies)", and
 -- "the count of programmed bytes", a refusal included

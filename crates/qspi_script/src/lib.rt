@@ -102,13 +102,13 @@ pub enum Purpose {
 }
 
 // What a call that is done gives beside its counts: nothing, the byte of a register, an id of one reply or
-// of three, or the SLCR clock word, which follows from its inputs.
+// of three, or the SLCR clock word.
 pub enum Gives {
     Nothing,
     Register,
     Id,
     LongId,
-    Clock(u32),
+    Clock,
 }
 
 // What comes after what, where calls differ. `erasing` picks the error bit; `paging` is `write_pages`,
@@ -145,10 +145,11 @@ pub struct Reading {
     pub dummy: bool,
 }
 
-// A call that sends nothing, and the word that it writes.
+// A call that sends nothing, the word that it writes, and the SLCR clock word that `initialize` gives.
 pub struct LowLevel {
     pub sequence: Sequence,
     pub word: u32,
+    pub clock: u32,
 }
 
 // A call as it was asked for; steps do not change it.

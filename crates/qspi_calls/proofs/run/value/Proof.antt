@@ -38,28 +38,28 @@ enum-told-4 : tie.Need-enum-told-4
 enum-told-4 c = search needs
 
 -- src/run.rt:77:22
-enum-known-word : tie.Need-enum-known-word
-enum-known-word c = search needs
+enum-told-5 : tie.Need-enum-told-5
+enum-told-5 c = search needs
 
 -- src/run.rt:63:1
 returns : tie.Need-returns
-returns c = value-is (c .before .before .before .before .before .before .before .args .s) (sym (c .enum-told .given .1) ∙ c .before .before .given .ensures) refl
+returns c = value-is (c .before .before .before .before .before .before .before .before .args .s) (sym (c .enum-told .given .1) ∙ c .before .before .given .ensures) refl
 
 -- src/run.rt:63:1
 returns-2 : tie.Need-returns-2
-returns-2 c = value-is (c .before .before .before .before .before .before .before .before .args .s) (sym (c .before .enum-told2 .given .1) ∙ c .before .before .before .given .ensures) (c .top-byte .ensures)
+returns-2 c = value-is (c .before .before .before .before .before .before .before .before .before .args .s) (sym (c .before .enum-told2 .given .1) ∙ c .before .before .before .given .ensures) (c .top-byte .ensures)
 
 -- src/run.rt:63:1
 returns-3 : tie.Need-returns-3
-returns-3 c = value-is (c .before .before .before .before .before .before .before .args .s) (sym (c .enum-told3 .given .1) ∙ c .before .before .given .ensures) refl
+returns-3 c = value-is (c .before .before .before .before .before .before .before .before .args .s) (sym (c .enum-told3 .given .1) ∙ c .before .before .given .ensures) refl
 
 -- src/run.rt:63:1
 returns-4 : tie.Need-returns-4
-returns-4 c = value-is (c .before .before .before .before .before .before .before .args .s) (sym (c .enum-told4 .given .1) ∙ c .before .before .given .ensures) refl
+returns-4 c = value-is (c .before .before .before .before .before .before .before .before .args .s) (sym (c .enum-told4 .given .1) ∙ c .before .before .given .ensures) refl
 
 -- src/run.rt:63:1
 returns-5 : tie.Need-returns-5
-returns-5 c = value-is (c .before .before .before .before .before .before .before .before .args .s) (sym (c .before .word .given .1) ∙ c .before .before .before .given .ensures) refl
+returns-5 c = value-is (c .before .before .before .before .before .before .before .before .args .s) (sym (c .enum-told5 .given .1) ∙ c .before .before .given .ensures) refl
 
 pub value-spec : {M : Type 1} → statement M
 value-spec =
@@ -72,7 +72,7 @@ value-spec =
     cast-result
     enum-told-3
     enum-told-4
-    enum-known-word
+    enum-told-5
     returns
     returns-2
     returns-3

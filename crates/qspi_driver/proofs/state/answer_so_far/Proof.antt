@@ -23,10 +23,13 @@ kept-requires-2 c κs = search needs
 kept-requires-3 : tie.Need-kept-requires-3
 kept-requires-3 c κs = search needs
 
+kept-requires-4 : tie.Need-kept-requires-4
+kept-requires-4 c κs = search needs
+
 -- src/state.rt:102:1
 returns : tie.Need-returns
-returns c = answers _ (rw (c .before .before .before .before .programmed .ensures, c .before .before .before .given .ensures, c .before .before .kept .ensures, c .before .kept2 .ensures, c .kept3 .ensures))
+returns c = answers _ (rw (c .before .before .before .before .before .programmed .ensures, c .before .before .before .before .given .ensures, c .before .before .before .kept .ensures, c .before .before .kept2 .ensures, c .before .kept3 .ensures, c .kept4 .ensures))
 
 pub answer-so-far-spec : {M : Type 1} → statement M
 answer-so-far-spec =
-    tie.close (tie.spec programmed-requires given-requires kept-requires kept-requires-2 kept-requires-3 returns)
+    tie.close (tie.spec programmed-requires given-requires kept-requires kept-requires-2 kept-requires-3 kept-requires-4 returns)
