@@ -2,7 +2,7 @@
 use mathlib.Core.Path.{_≡_, refl, ap, subst, _∙_, sym}
 use mathlib.Core.List.{List, [], _∷_, _++_}
 use mathlib.Core.Bool.{Bool, true, false}
-use Prim.Native.Nat.{ℕ, _+_, _*_, _<_}
+use Prim.Native.Nat.{ℕ, _+_, _*_, _<_, _≤_}
 use native.Mathlib.Omega.{arith}
 use lib.ListN.{length, getD, take, drop, length-append}
 use lib.Seq.{take-at, sets, length-sets, sets-eq}
@@ -15,18 +15,18 @@ use Rattle.qspi_operation.specs.declared.Reply.{Reply}
 use Rattle.qspi_operation.specs.declared.Stepped.{Stepped}
 use Rattle.qspi_operation.specs.Step.{isGoing}
 use Rattle.qspi_operation.specs.Machine.{begin, countIn, Result, runs, repliesOf, after, Makes}
-use Rattle.qspi_operation.specs.Points.{sameAs, Point, outset, stepAt, accessAt}
-use Rattle.qspi_operation.specs.Follows.{Follows, StepFollows}
+use Rattle.qspi_operation.specs.Points.{Lending, sameAs, Point, outset, stepAt, accessAt, rest, ranAt}
+use Rattle.qspi_operation.specs.Follows.{Follows, Leaves, StepFollows, RunFollows}
 use Rattle.qspi_operation.specs.Orders.{Stands}
 use Rattle.qspi_operation.proofs.Following.{shows}
-use Rattle.qspi_operation.proofs.Orders.{runs-on, before-log, step-stands, outset-stands}
+use Rattle.qspi_operation.proofs.Orders.{runs-on, before-log, step-stands, run-stands, outset-stands}
 use Rattle.qspi_operation.proofs.PointLaws.{made-more, encode-append}
 use Rattle.qspi_calls.specs.Begins.{BeginsWith}
 use Rattle.qspi_calls.specs.Calls.{writePages}
 use Rattle.qspi_calls.proofs.WireOrder.{AllBytes}
 use Rattle.qspi_calls.proofs.Registers.{Call, run-loggable}
 use Rattle.power_cut.specs.Statement.{PowerCut}
-use Rattle.power_cut.specs.Saving.{lending, Saving, StepSaves}
+use Rattle.power_cut.specs.Saving.{lending, Saving, KeepsSaving}
 use Rattle.power_cut.proofs.Promised.{all-bytes}
 use Rattle.power_cut.proofs.Theorem.{power-cut-of}
 
@@ -74,55 +74,64 @@ module _ (a : ℕ) (bs : List ℕ) where
   unfolding encode
   saving-begins {o} log octets h = saving-at (outset (begin (writePages a bs) [] 0)) o log octets (outset-stands (begin (writePages a bs) [] 0) (length log)) (h bs refl .follows) refl
 
-module _ (o : Op) (bytes buffer log : List ℕ) (r : Reply) {s : Stepped} {buffer₁ log₁ : List ℕ} (f : StepFollows o bytes buffer log r s buffer₁ log₁) where
-  -- the words of one access more
-  module _ (a : ℕ) (empty : length buffer ≡ 0) (g : Saving a bytes o log) where
-    abbrev p : Point
-    p = g .point
-
-    abbrev q : Point
-    q = stepAt (length log) r p
-
-    abbrev l : List Access
-    l = accessAt (length log) r p
-
-    more : length (q .made) ≡ length (p .made) + length l
-    more = ap length (made-more (length log) r p) ∙ length-append (p .made) l
-
-    -- the step logs them behind the used words
-    log-is : log₁ ≡ sets log (2 * length (p .made)) (encode l)
-    log-is = f (lending bytes log) p (g .follows) .steps refl empty refl .logged
-
+  -- accesses more, logged behind the used words
+  module _ (log : List ℕ) {log₁ : List ℕ} (p q : Point) (l : List Access) (made : q .made ≡ p .made ++ l) (log-is : log₁ ≡ sets log (2 * length (p .made)) (encode l)) where
     as-long : length log₁ ≡ length log
     as-long = ap length log-is ∙ length-sets log (2 * length (p .made)) (encode l)
 
-    used-words : take (2 * length (q .made)) log₁ ≡ encode (q .made)
-    used-words =
-        let short = step-stands (begin (writePages a bytes) [] 0) (length log) r p (g .stands) .short in
+    used-words : 2 * length (q .made) ≤ length log → take (2 * length (p .made)) log ≡ encode (p .made) → take (2 * length (q .made)) log₁ ≡ encode (q .made)
+    used-words short is-log =
+        let more : length (q .made) ≡ length (p .made) + length l = ap length made ∙ length-append (p .made) l in
         let k₀ = length-encode (p .made) in
         let k₁ = length-encode l in
-        let w : length (take (2 * length (p .made)) log) ≡ 2 * length (p .made) = ap length (g .is-log) ∙ k₀ in
+        let w : length (take (2 * length (p .made)) log) ≡ 2 * length (p .made) = ap length is-log ∙ k₀ in
         let u : length (take (2 * length (p .made)) log ++ encode l) ≡ 2 * length (q .made) = length-append (take (2 * length (p .made)) log) (encode l) ∙ omega (arith, w, k₁, more) in
         let y : log₁ ≡ take (2 * length (p .made)) log ++ encode l ++ drop (2 * length (p .made) + length (encode l)) log = log-is ∙ sets-eq (encode l) log (2 * length (p .made)) (omega (arith, k₁, more, short)) in
         ap (take (2 * length (q .made))) y ∙ take-at (take (2 * length (p .made)) log ++ encode l) _ (2 * length (q .made)) u
-        ∙ ap (λ (z : List ℕ). z ++ encode l) (g .is-log) ∙ sym (encode-append (p .made) l) ∙ ap encode (sym (made-more (length log) r p))
+        ∙ ap (λ (z : List ℕ). z ++ encode l) is-log ∙ sym (encode-append (p .made) l) ∙ ap encode (sym made)
 
-    goes : Saving a bytes (s .op) log₁
-    goes =
-        saving-at a bytes q (s .op) log₁ (g .octets)
-        (subst (λ (n : ℕ). Stands (begin (writePages a bytes) [] 0) n q) (sym as-long) (step-stands (begin (writePages a bytes) [] 0) (length log) r p (g .stands)))
-        (subst (λ (n : ℕ). Follows (record { bytes = bytes; buffer = []; room = n }) q (s .op)) (sym as-long) (f (lending bytes log) p (g .follows) .steps refl empty refl .follows))
-        used-words
+    saving-on : {o₁ : Op} → ((i : ℕ) → getD bs i 0 < 256) → Stands (begin (writePages a bs) [] 0) (length log) q → Follows (lending bs log) q o₁ → take (2 * length (p .made)) log ≡ encode (p .made) → Saving a bs o₁ log₁
+    saving-on {o₁} octets s f is-log =
+        saving-at q o₁ log₁ octets
+        (subst (λ (n : ℕ). Stands (begin (writePages a bs) [] 0) n q) (sym as-long) s)
+        (subst (λ (n : ℕ). Follows (record { bytes = bs; buffer = []; room = n }) q o₁) (sym as-long) f)
+        (used-words (s .short) is-log)
 
-  beside : (a : ℕ) (bs own : List ℕ) → Saving a bs o own → (isGoing (o .status) ≡ true → sameAs (lending bs own) (length bytes) (length buffer) (length log) ≡ false) → Saving a bs (s .op) own × (log₁ ≡ log)
-  beside a bs own g d = go (isGoing (g .point .answer)) refl
+-- lent other memory, or after its end, a step and a run leave all as it was
+module _ (o : Op) (bytes buffer log : List ℕ) {s : Stepped} {buffer₁ log₁ : List ℕ} (repeats : (g : Lending) (p : Point) → Follows g p o → isGoing (p .answer) ≡ false → Leaves o buffer log s buffer₁ log₁)
+    (changed : (g : Lending) (p : Point) → Follows g p o → isGoing (p .answer) ≡ true → sameAs g (length bytes) (length buffer) (length log) ≡ false → Leaves o buffer log s buffer₁ log₁) where
+  aside : (a : ℕ) (bs own : List ℕ) → Saving a bs o own → (isGoing (o .status) ≡ true → sameAs (lending bs own) (length bytes) (length buffer) (length log) ≡ false) → Saving a bs (s .op) own × (log₁ ≡ log)
+  aside a bs own g d = go (isGoing (g .point .answer)) refl
     where
-      go : (b : Bool) → isGoing (g .point .answer) ≡ b → Saving a bs (s .op) own × (log₁ ≡ log)
-      go false e = let x = f (lending bs own) (g .point) (g .follows) .repeats e .0 in (rw (x .op) g, x .logged)
-      go true e =
-          let x = f (lending bs own) (g .point) (g .follows) .changed e (d (ap isGoing (shows (lending bs own) (g .follows) .status) ∙ e)) .0 in
-          (rw (x .op) g, x .logged)
+      left : Leaves o buffer log s buffer₁ log₁ → Saving a bs (s .op) own × (log₁ ≡ log)
+      left x = (rw (x .op) g, x .logged)
 
-  -- THEOREM. A step of a save under way is a save under way, whatever it is handed, and one that is lent other memory leaves it as it is.
-  pub step-saves : StepSaves o bytes buffer log (s .op) log₁
-  step-saves = record { goes = λ a e g. goes a e g; beside = beside }
+      go : (b : Bool) → isGoing (g .point .answer) ≡ b → Saving a bs (s .op) own × (log₁ ≡ log)
+      go false e = left (repeats (lending bs own) (g .point) (g .follows) e)
+      go true e = left (changed (lending bs own) (g .point) (g .follows) e (d (ap isGoing (shows (lending bs own) (g .follows) .status) ∙ e)))
+
+-- THEOREM. A step of a save under way is a save under way, whatever it is handed, and one that is lent other memory leaves it as it is.
+pub step-saves : (o : Op) (bytes buffer log : List ℕ) (r : Reply) {s : Stepped} {buffer₁ log₁ : List ℕ} → StepFollows o bytes buffer log r s buffer₁ log₁ → KeepsSaving o bytes buffer log (s .op) log₁
+step-saves o bytes buffer log r {s} {buffer₁} {log₁} f = record {
+  goes = λ a empty g.
+      let p = g .point in
+      let x = f (lending bytes log) p (g .follows) .steps refl empty refl in
+      saving-on a bytes log p (stepAt (length log) r p) (accessAt (length log) r p) (made-more (length log) r p) (x .logged) (g .octets) (step-stands (begin (writePages a bytes) [] 0) (length log) r p (g .stands)) (x .follows) (g .is-log);
+  beside = aside o bytes buffer log (λ g p h e. f g p h .repeats e .0) (λ g p h e d. f g p h .changed e d .0);
+}
+
+-- THEOREM. So is a run of it.
+pub run-saves : (o : Op) (bytes buffer log rs : List ℕ) {s : Stepped} {buffer₁ log₁ : List ℕ} → RunFollows o bytes buffer log rs s buffer₁ log₁ → KeepsSaving o bytes buffer log (s .op) log₁
+run-saves o bytes buffer log rs {s} {buffer₁} {log₁} f = record { goes = λ a empty g. go a empty g (isGoing (g .point .answer)) refl; beside = left }
+  where
+    left : (a : ℕ) (bs own : List ℕ) → Saving a bs o own → (isGoing (o .status) ≡ true → sameAs (lending bs own) (length bytes) (length buffer) (length log) ≡ false) → Saving a bs (s .op) own × (log₁ ≡ log)
+    left = aside o bytes buffer log (λ g p h e. f g p h .repeats e .0) (λ g p h e d. f g p h .changed e d .0)
+
+    go : (a : ℕ) → length buffer ≡ 0 → (g : Saving a bytes o log) (b : Bool) → isGoing (g .point .answer) ≡ b → Saving a bytes (s .op) log₁
+    go a empty g false e =
+        let x = f (lending bytes log) (g .point) (g .follows) .repeats e .0 in
+        rw (x .op, x .logged) g
+    go a empty g true e =
+        let p = g .point in
+        let x = f (lending bytes log) p (g .follows) .runs e refl empty refl in
+        saving-on a bytes log p (ranAt (length log) rs p) (rest (length log) rs p .log) refl (x .logged) (g .octets) (run-stands (begin (writePages a bytes) [] 0) (length log) rs p (g .stands)) (x .follows) (g .is-log)

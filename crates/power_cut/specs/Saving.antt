@@ -34,9 +34,9 @@ pub record Saving (a : ℕ) (bs : List ℕ) (o : Op) (log : List ℕ) : Type 0 w
   pub follows : Follows (lending bs log) point o
   pub is-log : take (2 * length (point .made)) log ≡ encode (point .made)
 
--- what a step promises of a save: o was at hand and was lent this memory, o₁ is at hand then
-pub record StepSaves (o : Op) (bytes buffer log : List ℕ) (o₁ : Op) (log₁ : List ℕ) : Type 0 where
-  -- lent the save's own data and log, it is a save after the step
+-- what a step and a run promise of a save: o was at hand and was lent this memory, o₁ is at hand then
+pub record KeepsSaving (o : Op) (bytes buffer log : List ℕ) (o₁ : Op) (log₁ : List ℕ) : Type 0 where
+  -- lent the save's own data and log, it is a save after it
   pub goes : (a : ℕ) → length buffer ≡ 0 → Saving a bytes o log → Saving a bytes o₁ log₁
   -- lent other memory, of another length or after the end, it is the same save, and the memory lent is the same
   pub beside : (a : ℕ) (bs own : List ℕ) → Saving a bs o own → (isGoing (o .status) ≡ true → sameAs (lending bs own) (length bytes) (length buffer) (length log) ≡ false)

@@ -16,11 +16,12 @@ use Rattle.qspi_operation.specs.declared.Reply.{Reply}
 use Rattle.qspi_operation.specs.declared.Stepped.{Stepped}
 use Rattle.qspi_operation.specs.Run.{runOf}
 use Rattle.qspi_operation.specs.Step.{isGoing, stepOf, logOf, bufferOf}
-use Rattle.qspi_operation.specs.Follows.{Begun, StepFollows, answerOf}
+use Rattle.qspi_operation.specs.Follows.{Begun, StepFollows, RunFollows, answerOf}
 use Rattle.qspi_operation.proofs.Verdicts.{Promised}
 use Rattle.qspi_operation.proofs.Following.{shows, on-step, on-run}
 use Rattle.qspi_calls.specs.Promise.{keptOf, givenOf}
-use Rattle.power_cut.proofs.Stepped.{saving-begins, step-saves}
+use Rattle.power_cut.specs.Saving.{KeepsSaving}
+use Rattle.power_cut.proofs.Stepped.{saving-begins, step-saves, run-saves}
 use Rattle.qspi_driver.specs.State.{begunIf, begunOf, steppedOf, progressOf, valuesGiven, answeredIn}
 use Rattle.qspi_driver.specs.Driver.{Driver, Drive, drivenIf, drivenOf}
 use Rattle.qspi_driver.specs.Promise.{Started, Steps, AnswerFollows, Drives}
@@ -109,10 +110,18 @@ drives d op bytes buffer log rs {r} {buffer₁} {log₁} e = record {
       (ap (λ (x : Drive). x .driver) y, (ap (λ (x : Drive). x .answer) y, (ap (λ (x : Drive). x .log) y, ap (λ (x : Drive). x .buffer) y)));
   status = runOf op bytes rs buffer log .answer;
   given = λ g. ap (λ (x : Drive). x .answer) (decided g);
-  runs = λ g.
-      let y = decided g in
-      on-run op bytes buffer log rs (record { op = ap (λ (x : Drive). x .driver .state .op) y; answer = refl; stored = ap (λ (x : Drive). x .buffer) y; logged = ap (λ (x : Drive). x .log) y });
+  runs = follows;
+  saves = λ g a octets empty h. keeps g .goes a empty (saving-begins a bytes log octets h);
+  keeps = keeps;
 }
   where
     decided : {b : Bool} → isGoing (d .state .op .status) ≡ b → record { driver = r .driver; answer = r .answer; buffer = buffer₁; log = log₁ } ≡ drivenIf b d (runOf op bytes rs buffer log) buffer log
     decided g = e ∙ ap (λ (b : Bool). drivenIf b d (runOf op bytes rs buffer log) buffer log) g
+
+    follows : isGoing (d .state .op .status) ≡ false → RunFollows op bytes buffer log rs (record { op = r .driver .state .op; answer = runOf op bytes rs buffer log .answer }) buffer₁ log₁
+    follows g =
+        let y = decided g in
+        on-run op bytes buffer log rs (record { op = ap (λ (x : Drive). x .driver .state .op) y; answer = refl; stored = ap (λ (x : Drive). x .buffer) y; logged = ap (λ (x : Drive). x .log) y })
+
+    keeps : isGoing (d .state .op .status) ≡ false → KeepsSaving op bytes buffer log (r .driver .state .op) log₁
+    keeps g = run-saves op bytes buffer log rs (follows g)

@@ -14,7 +14,7 @@ use Rattle.qspi_operation.specs.Points.{Lending, Point, answerAt}
 use Rattle.qspi_operation.specs.Follows.{Follows, Begun, StepFollows, RunFollows}
 use Rattle.qspi_calls.specs.Begins.{BeginsWith}
 use Rattle.qspi_calls.specs.Calls.{writePages}
-use Rattle.power_cut.specs.Saving.{Saving, StepSaves}
+use Rattle.power_cut.specs.Saving.{Saving, KeepsSaving}
 use Rattle.qspi_driver.specs.State.{answeredIn}
 use Rattle.qspi_driver.specs.Driver.{Driver}
 use Rattle.qspi_driver.specs.declared.Driven.{Driven}
@@ -38,7 +38,7 @@ pub record Steps (o : Op) (bytes buffer log : List ℕ) (r : Reply) (answer : An
   pub status : Status
   pub given : answer ≡ Given status
   pub follows : StepFollows o bytes buffer log r (record { op = o₁; answer = status }) buffer₁ log₁
-  pub saves : StepSaves o bytes buffer log o₁ log₁
+  pub saves : KeepsSaving o bytes buffer log o₁ log₁
 
 -- the answer so far, with number, values and counts
 abbrev pub AnswerFollows : Op → Progress → Type 0
@@ -51,3 +51,6 @@ pub record Drives (d : Driver) (op : Op) (bytes buffer log replies : List ℕ) (
   pub given : isGoing (d .state .op .status) ≡ false → r .answer ≡ Given status
   -- it is the run of the call, and where that answers 25 the call is still under way
   pub runs : isGoing (d .state .op .status) ≡ false → RunFollows op bytes buffer log replies (record { op = r .driver .state .op; answer = status }) buffer₁ log₁
+  -- of a save the power-cut statement holds then, by the log that it was lent; one that met other lengths is the save that it was
+  pub saves : isGoing (d .state .op .status) ≡ false → (a : ℕ) → ((i : ℕ) → getD bytes i 0 < 256) → length buffer ≡ 0 → BeginsWith (length bytes) (length log) (writePages a) op → Saving a bytes (r .driver .state .op) log₁
+  pub keeps : isGoing (d .state .op .status) ≡ false → KeepsSaving op bytes buffer log (r .driver .state .op) log₁
