@@ -11,13 +11,12 @@ pub fn is_right(turn: Turn, after: Turn, given: u32, log: &[u32]) -> bool {
     if turn.expected == tally::UNDER_WAY {
         return is_access(turn, after, given, log);
     }
-    if turn.expected == tally::STARTED {
-        return given == after.answer;
+    if turn.expected != tally::STARTED {
+        if given != turn.expected {
+            return false;
+        }
     }
-    if given != turn.expected {
-        return false;
-    }
-    if after.answer != left(turn) {
+    if after.answer != left(turn, given) {
         return false;
     }
     if after.answer == turn.answer {
@@ -30,10 +29,10 @@ pub fn is_right(turn: Turn, after: Turn, given: u32, log: &[u32]) -> bool {
 }
 
 // The answer so far where no access was made: 23 and 24 end the call.
-fn left(turn: Turn) -> u32 {
+fn left(turn: Turn, given: u32) -> u32 {
     let expected = turn.expected;
     match expected {
-        23 | 24 => expected,
+        23 | 24 | tally::STARTED => given,
         _ => turn.answer,
     }
 }

@@ -41,7 +41,7 @@ fn orders(call: usize) {
     let mut tally = [0u32; SLOTS];
     let mut number: usize = 0;
     while number < ORDERS {
-        let draw = memory::mix_count(memory::mix_count(1, call), number);
+        let draw = memory::mix_count(memory::mix_count(6, call), number);
         tally[tally::DIFFERS] = 0;
         carry_out(order::drawn(call, draw), &mut tally);
         print::differing(call, number, tally[tally::DIFFERS]);

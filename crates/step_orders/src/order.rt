@@ -30,7 +30,7 @@ pub fn drawn(call: usize, draw: u32) -> Order {
     let room = random::next(second);
     let ends = random::next(room);
     let turns = random::next(ends);
-    let b = length(random::number(pick) / 8 % 8, random::number(second));
+    let b = length(call, random::number(pick) / 8 % 8, random::number(second));
     Order {
         call,
         a: input(call, random::number(pick) % 8, random::word(first)),
@@ -38,9 +38,9 @@ pub fn drawn(call: usize, draw: u32) -> Order {
         data: lent(call, 16, 17, b),
         buffer: lent(call, 18, 20, b),
         style: random::number(pick) / 64 % 8,
-        room: size(random::number(room), 40, 1024, 2000),
-        ends: size(random::number(ends), 16, 256, REPLIES),
-        turns: size(random::number(turns), 16, 256, TURNS),
+        room: size(random::number(room), 40, 1500, 2000),
+        ends: size(random::number(ends), 16, 400, REPLIES),
+        turns: size(random::number(turns), 16, 600, TURNS),
         calm: calm(random::number(pick) / 512 % 3),
         draw: turns,
     }
@@ -81,35 +81,44 @@ fn field(pick: usize, word: u32) -> u32 {
     }
 }
 
-// Any, one near the end of the flash or of the 32 bits, any within the flash, a half page's, or a sector's.
+// Any, one near the end of the flash or of the 32 bits, any within the flash, a quarter page's, or a sector's.
 fn address(pick: usize, word: u32) -> u32 {
     match pick {
         0 => word,
         1 => 0xFF_FE00 + word % 0x200,
         2 => 0xFFFF_FE00 + word % 0x200,
         3 => word % 0x100_0000,
-        4 => word % 0x2_0000 * 0x80,
+        4 | 5 => word % 0x4_0000 * 0x40,
         _ => word % 0x100 * 0x1_0000,
     }
 }
 
-// The second input: a length, or a number by call. Any, one near the greatest of `program`, one of whole words,
-// or a short one.
-fn length(pick: usize, n: usize) -> usize {
+// The second input: a length, or a number by call. Any, one near the greatest of `program` and of a read's
+// chunk, one near two chunks of a read, one of whole words, or a short one.
+fn length(call: usize, pick: usize, n: usize) -> usize {
     match pick {
         0 => n % 0x201,
-        1 => 236 + n % 9,
-        2 => n % 12,
+        1 => 236 + n % 16,
+        2 => 488 + n % 25,
         3 | 4 => n % 0x81 * 4,
-        _ => n % 16 * 4,
+        5 => n % 12,
+        _ => short(call, n),
     }
+}
+
+// A few words; for `write_pages`, the call of number 17, whole chunks.
+fn short(call: usize, n: usize) -> usize {
+    if call == 17 {
+        return n % 4 * 128 + 128;
+    }
+    n % 16 * 4
 }
 
 // Few, some, or enough.
 fn size(n: usize, few: usize, some: usize, enough: usize) -> usize {
     match n % 8 {
         0 => random::below(n / 8, few),
-        1 => random::below(n / 8, some),
+        1 | 2 => random::below(n / 8, some),
         _ => enough,
     }
 }

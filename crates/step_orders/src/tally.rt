@@ -95,11 +95,11 @@ fn slot(turn: Turn) -> usize {
         25 => CHANGED,
         BUSY => OTHERS,
         STARTED => ORDERS,
-        _ => made(turn),
+        _ => stepped(turn),
     }
 }
 
-fn made(turn: Turn) -> usize {
+fn stepped(turn: Turn) -> usize {
     if turn.answer == UNDER_WAY {
         STEPS
     } else {

@@ -70,8 +70,8 @@ fn turned(
     let answer = acted.answer;
     let state = acted.state;
     let asked = state::due(state, memory::front_bytes(data, order.data));
-    let other = lengths::other(order.data, random::number(turn.draw) / 128);
-    let other = turn::first_word(state::due(state, memory::front_bytes(data, other)));
+    let length = lengths::other(order.data, random::number(turn.draw) / 128);
+    let other = turn::first_word(state::due(state, memory::front_bytes(data, length)));
     let after = turn::next(turn, order, state::answer_so_far(state), asked);
     let given = tally::number_of(answer);
     let right = judge::is_right(turn, after, given, words);
@@ -79,6 +79,7 @@ fn turned(
     after
 }
 
+// What is done in a turn.
 fn act(
     turn: Turn,
     order: Order,
