@@ -16,7 +16,7 @@ use Rattle.qspi_operation.specs.Machine.{Result, countIn, runs, called}
 use Rattle.qspi_calls.specs.Calls.{writePages}
 use Rattle.power_cut.specs.Flash.{Array, Flash, flash, busy, programOf, eraseOf, commandOf, programmed, obey, execute, settles, AfterCut}
 use Rattle.power_cut.specs.Controller.{registerAt, bytesOut, isStatusRead, showsBusy, showsProgramError, showsEraseError, Device, device, flashOf, Shows, out, idle, configured, afterWrite, afterRead, effect, GivenBy, Gives, AllOut, Trace, still, quiet, step, Rests, rests}
-use Rattle.power_cut.specs.Observer.{Observed, isClean, closing, enableWritten, seenWrite, seenRead, seen, raised, doubtEnable, doubtAfter, see, sees, observed}
+use Rattle.power_cut.specs.Observer.{Observed, raised, configWritten, isClean, closing, enableWritten, seenWrite, seenRead, see, sees, observed}
 use Rattle.power_cut.specs.Statement.{Kept}
 use Rattle.power_cut.specs.Witness.{Accepted}
 
@@ -146,20 +146,20 @@ witness =
 abbrev shown-at : ℕ → Observed
 shown-at k = observed (take k (ran .log))
 
-pub before-the-rise : (shown-at 26 .doubt ≡ none) × (shown-at 26 .sofar .finished ≡ [])
-unfolding runs chunks chunksIn observed sees see seen seenRead seenWrite enableWritten closing isClean isStatusRead raised doubtEnable doubtAfter registerAt bytesOut commandOf programOf eraseOf
+pub before-the-rise : (shown-at 26 .doubt ≡ []) × (shown-at 26 .finished ≡ [])
+unfolding runs chunks chunksIn observed sees see seenRead seenWrite configWritten enableWritten closing isClean isStatusRead raised registerAt bytesOut commandOf programOf eraseOf
 before-the-rise = (refl, refl)
 
-pub from-the-rise : (shown-at 27 .doubt ≡ some line-chunk) × (shown-at 27 .sofar .finished ≡ [])
-unfolding runs chunks chunksIn observed sees see seen seenRead seenWrite enableWritten closing isClean isStatusRead raised doubtEnable doubtAfter registerAt bytesOut commandOf programOf eraseOf
+pub from-the-rise : (shown-at 27 .doubt ≡ line-chunk ∷ []) × (shown-at 27 .finished ≡ [])
+unfolding runs chunks chunksIn observed sees see seenRead seenWrite configWritten enableWritten closing isClean isStatusRead raised registerAt bytesOut commandOf programOf eraseOf
 from-the-rise = (refl, refl)
 
-pub before-the-closing : (shown-at 54 .doubt ≡ some line-chunk) × (shown-at 54 .sofar .finished ≡ [])
-unfolding runs chunks chunksIn observed sees see seen seenRead seenWrite enableWritten closing isClean isStatusRead raised doubtEnable doubtAfter registerAt bytesOut commandOf programOf eraseOf
+pub before-the-closing : (shown-at 54 .doubt ≡ line-chunk ∷ []) × (shown-at 54 .finished ≡ [])
+unfolding runs chunks chunksIn observed sees see seenRead seenWrite configWritten enableWritten closing isClean isStatusRead raised registerAt bytesOut commandOf programOf eraseOf
 before-the-closing = (refl, refl)
 
-pub after-the-closing : (shown-at 55 .doubt ≡ none) × (shown-at 55 .sofar .finished ≡ line-chunk ∷ [])
-unfolding runs chunks chunksIn observed sees see seen seenRead seenWrite enableWritten closing isClean isStatusRead raised doubtEnable doubtAfter registerAt bytesOut commandOf programOf eraseOf
+pub after-the-closing : (shown-at 55 .doubt ≡ []) × (shown-at 55 .finished ≡ line-chunk ∷ [])
+unfolding runs chunks chunksIn observed sees see seenRead seenWrite configWritten enableWritten closing isClean isStatusRead raised registerAt bytesOut commandOf programOf eraseOf
 after-the-closing = (refl, refl)
 
 -- ---- without the premise on words
@@ -236,13 +236,13 @@ unfolding AfterCut
 loose-cut x = refl
 
 -- the run takes the line for programmed
-loose-shown : observed (loose .log) .sofar .finished ≡ line-chunk ∷ []
-unfolding runs chunks chunksIn observed sees see seen seenRead seenWrite enableWritten closing isClean isStatusRead raised doubtEnable doubtAfter registerAt bytesOut commandOf programOf eraseOf
+loose-shown : observed (loose .log) .finished ≡ line-chunk ∷ []
+unfolding runs chunks chunksIn observed sees see seenRead seenWrite configWritten enableWritten closing isClean isStatusRead raised registerAt bytesOut commandOf programOf eraseOf
 loose-shown = refl
 
 unchanged : Kept 0x000100 line blank (observed (loose .log)) blank → ⊥
 unchanged k =
-    let m : Among line-chunk (observed (loose .log) .sofar .finished) = rw loose-shown here in
+    let m : Among line-chunk (observed (loose .log) .finished) = rw loose-shown here in
     let e : _≡_ {A = ℕ} 0xFF 0xDE = k .written line-chunk m 0 (omega arith) in
     omega (arith, e)
 

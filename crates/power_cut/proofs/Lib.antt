@@ -5,7 +5,6 @@ pub mod Lands
 pub mod Levels
 pub mod Control
 pub mod OnDevice
-pub mod Doubt
 pub mod Theorem
 pub mod Plain
 pub mod Offsets

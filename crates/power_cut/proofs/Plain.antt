@@ -2,7 +2,6 @@
 -- them. Assumes nothing.
 use mathlib.Core.Path.{_≡_, refl, ap, _∙_, sym}
 use mathlib.Core.Bool.{Bool, true, false, true≢false}
-use mathlib.Core.Option.{Option, none, some}
 use mathlib.Core.List.{List, [], _∷_, _++_, head-eq-of-cons-eq, tail-eq-of-cons-eq, cons≢nil}
 use Prim.Native.Nat.{ℕ, zero, suc, _+_, _-_, _≤_, _<_}
 use native.Mathlib.Omega.{arith}
@@ -122,24 +121,28 @@ next-chunk (suc f) a (b ∷ bs) (d ∷ k) c l e =
 -- ---- the statement
 
 -- with the first n bytes of the data finished
-pub record Plain (a : ℕ) (bs : List ℕ) (old new : Array) (n : ℕ) (doubt : Option Chunk) : Type 0 where
+pub record Plain (a : ℕ) (bs : List ℕ) (old new : Array) (n : ℕ) (doubt : List Chunk) : Type 0 where
   pub few : n ≤ length bs
   pub written : (j : ℕ) → j < n → new (a + j) ≡ bitAnd (old (a + j)) (getD bs j 0)
-  pub next : (c : Chunk) → doubt ≡ some c → c ≡ record { address = a + n; bytes = take 128 (drop n bs) }
-  pub same : (x : ℕ) → ((a ≤ x) × (x < a + n) → ⊥) → ((c : Chunk) → doubt ≡ some c → In x c → ⊥) → new x ≡ old x
+  pub one : length doubt ≤ 1
+  pub next : (c : Chunk) → Among c doubt → c ≡ record { address = a + n; bytes = take 128 (drop n bs) }
+  pub same : (x : ℕ) → ((a ≤ x) × (x < a + n) → ⊥) → ((c : Chunk) → Among c doubt → In x c → ⊥) → new x ≡ old x
 
-doubt-next : (f a : ℕ) (bs : List ℕ) (k l : List Chunk) (q : Option Chunk) → k ++ l ≡ chunksIn f a bs → NextOnly q l → (c : Chunk) → q ≡ some c → c ≡ record { address = a + total k; bytes = take 128 (drop (total k) bs) }
-doubt-next f a bs k l none e no-doubt c h = let z : _≡_ {A = Bool} true false = cc in absurd (true≢false z)
-doubt-next f a bs k (d ∷ l) (some b) e (the-next y z) c h =
-    let i : c ≡ d = cc in
-    i ∙ next-chunk f a bs k d l e
+-- "at most one chunk"
+at-most-one : {q l : List Chunk} → NextOnly q l → length q ≤ 1
+at-most-one no-doubt = omega arith
+at-most-one (the-next y z) = omega arith
 
-pub plain : (a : ℕ) (bs : List ℕ) (old new : Array) (o : Observed) → Kept a bs old o new → Plain a bs old new (total (o .sofar .finished)) (o .doubt)
+doubt-next : (f a : ℕ) (bs : List ℕ) (k l : List Chunk) {q : List Chunk} → k ++ l ≡ chunksIn f a bs → NextOnly q l → (c : Chunk) → Among c q → c ≡ record { address = a + total k; bytes = take 128 (drop (total k) bs) }
+doubt-next f a bs k l e (the-next {left = left} y z) c here = next-chunk f a bs k c left e
+
+pub plain : (a : ℕ) (bs : List ℕ) (old new : Array) (o : Observed) → Kept a bs old o new → Plain a bs old new (total (o .finished)) (o .doubt)
 unfolding chunks
 plain a bs old new o k = record {
-  few = total-front (length bs) a bs (o .sofar .finished) (k .left) (k .first);
-  written = λ j h. (let s = stands (length bs) a bs (o .sofar .finished) (k .left) (k .first) j h in
+  few = total-front (length bs) a bs (o .finished) (k .left) (k .first);
+  written = λ j h. (let s = stands (length bs) a bs (o .finished) (k .left) (k .first) j h in
       ap new (sym (s .address-is)) ∙ k .written (s .chunk) (s .among) (s .place) (s .inside) ∙ rw (s .address-is, s .byte-is));
-  next = doubt-next (length bs) a bs (o .sofar .finished) (k .left) (o .doubt) (k .first) (k .next);
-  same = λ x h g. k .same x (λ c m i. h (covers (length bs) a bs (o .sofar .finished) (k .left) (k .first) x m i)) g;
+  one = at-most-one (k .next);
+  next = doubt-next (length bs) a bs (o .finished) (k .left) (k .first) (k .next);
+  same = λ x h g. k .same x (λ c m i. h (covers (length bs) a bs (o .finished) (k .left) (k .first) x m i)) g;
 }

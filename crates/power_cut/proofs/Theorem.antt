@@ -1,7 +1,7 @@
 -- The power-cut statement, proved of every run of `write_pages` over lists. Assumes nothing.
 use mathlib.Core.Path.{_≡_, refl, ap, _∙_, sym}
 use mathlib.Core.Bool.{Bool, true, false, cond}
-use mathlib.Core.Option.{Option, none, some}
+use mathlib.Core.Option.{none}
 use mathlib.Core.Logic.{inl}
 use mathlib.Core.List.{List, [], _∷_, _++_, append-nil}
 use Prim.Native.Nat.{ℕ, zero, suc, _+_, _<_}
@@ -10,27 +10,25 @@ use lib.Dec.{ltb}
 use lib.ListN.{length, take}
 use Rattle.zynq7000.specs.Access.{valueWord}
 use Rattle.zynq7000.specs.declared.qspi.Access.{Access}
-use Rattle.zynq7000.specs.declared.qspi.Access.the-variants as access
 use Rattle.qspi_script.specs.declared.Status.{Status}
 use Rattle.qspi_script.specs.declared.Status.the-variants.{Done, OutOfRange}
-use Rattle.qspi_calls.specs.Chunks.{Chunk, chunks, Among}
-use Rattle.qspi_operation.specs.Machine.{State, want, next, statusIn, countIn, Result, called, begin, Matches, Makes, after}
+use Rattle.qspi_calls.specs.Chunks.{Chunk, chunks, Among, here}
+use Rattle.qspi_operation.specs.Machine.{Transfer, State, want, wantAt, next, statusIn, countIn, Result, called, begin, Matches, m-write, Makes, after}
 use Rattle.qspi_operation.proofs.Orders.{run-ended}
 use Rattle.qspi_calls.specs.Calls.{writePages}
 use Rattle.qspi_calls.proofs.WireOrder.{AllBytes}
 use Rattle.power_cut.specs.Flash.{Array, lands, Flash, flash, AfterCut}
-use Rattle.power_cut.specs.Controller.{high, Device, device, flashOf, Silent, out, unasked, idle, effect, AllOut, Trace, still, quiet, step, Rests, rests}
-use Rattle.power_cut.specs.Observer.{Seen, closed, seen, Observed, see, sees, fresh, observed}
+use Rattle.power_cut.specs.Controller.{high, Device, device, flashOf, AllOut, Trace, still, quiet, step, Rests, rests}
+use Rattle.power_cut.specs.Observer.{closed, Observed, see, sees, fresh, observed}
 use Rattle.power_cut.specs.Statement.{In, total, NextOnly, no-doubt, the-next, Kept, PowerCut}
-use Rattle.power_cut.proofs.Driver.{Phase, isLast, Stage, enables, programs, polls, clears, disables, succeeded, failed, refuses, Driver, at, over, stateOf, startNext, driverAfter, driverStart, next-is, start-is}
+use Rattle.power_cut.proofs.Driver.{Phase, draining, dropping, opening, lowering, switching, sending, starting, releasing, waiting, again, taking, closing, raising, leaving, midway, action, isLast, Stage, enables, programs, polls, clears, disables, succeeded, failed, refuses, Driver, at, over, stateOf, startNext, driverAfter, driverStart, next-is, start-is}
 use Rattle.power_cut.proofs.Fits.{Fit, AllFit, Going, Good, good-next, good-driver}
-use Rattle.power_cut.proofs.Levels.{both-set}
-use Rattle.power_cut.proofs.Watch.{view, view-start, watch}
+use Rattle.power_cut.proofs.Levels.{both-set, high-start}
+use Rattle.power_cut.proofs.Watch.{risenAt, doubtAt, view, view-start, levelAfter, watch}
 use Rattle.power_cut.proofs.Lands.{applied, lands-out, spared, beside, Ordered, applied-in, applied-out, chunks-ordered, chunks-total, ordered-front, ordered-seam}
-use Rattle.power_cut.proofs.Control.{Up, held}
+use Rattle.power_cut.proofs.Control.{Up, Held, held, c-release}
 use Rattle.power_cut.proofs.OnDevice.{Calm, calm, Ready, ready, Works, under, past, FlashAt, Known, OnDevice, during, silent, begins, advance}
 use Rattle.power_cut.proofs.OnDevice as on
-use Rattle.power_cut.proofs.Doubt.{upOf, doubtAt, doubtNow, start-doubt, showing, edge}
 
 -- ---- the logs that a machine makes
 
@@ -58,39 +56,48 @@ good-driven whole d (a ∷ l) g = good-driven whole (driverAfter d (valueWord a)
 
 -- ---- what the log shows of finished chunks, whatever the replies
 
-seen-see : (o : Observed) (a : Access) → see o a .sofar ≡ seen (o .sofar) a
-unfolding see
-seen-see o (access.Read off v) = refl
-seen-see o (access.Write off v) = refl
+abbrev finishedBy : Driver → List Chunk
+finishedBy (at s p taken c l k) = k
+finishedBy (over a l k) = k
 
-pub seen-all : (early whole : List Chunk) (d : Driver) (l : List Access) (o : Observed) → o .sofar ≡ view early d → Good whole d → Makes (stateOf d) l → sees o l .sofar ≡ view early (driven d l)
+pub sees-all : (early whole : List Chunk) (d : Driver) (h : Bool) (l : List Access) → Good whole d → Makes (stateOf d) l → sees (view early d h) l .finished ≡ early ++ finishedBy (driven d l)
 unfolding sees
-seen-all early whole d [] o e g f = e
-seen-all early whole d (a ∷ l) o e g f =
-    seen-all early whole (driverAfter d (valueWord a)) l (see o a) (seen-see o a ∙ ap (λ (z : Seen). seen z a) e ∙ watch early whole d a g (f .0)) (good-next whole d (valueWord a) g) (follows-on d a l f)
+sees-all early whole (at s p taken c l k) h [] g f = refl
+sees-all early whole (over a l k) h [] g f = refl
+sees-all early whole d h (a ∷ l) g f =
+    ap (λ (o : Observed). sees o l .finished) (watch early whole d h a g (f .0))
+    ∙ sees-all early whole (driverAfter d (valueWord a)) (levelAfter d (valueWord a) h) l (good-next whole d (valueWord a) g) (follows-on d a l f)
 
 -- ---- the whole run against the device
 
-silent-up : {d e : Device} → Silent d e → upOf e ≡ upOf d
-silent-up (out v h) = refl
-silent-up (unasked h) = refl
-silent-up (idle h) = refl
+-- on a device chip select stays low from the fall to the rise
+stays-low : {P : ℕ → Type 0} {n : ℕ} {x : Transfer} {p : Phase} {taken : List ℕ} {f : Flash} {d : Device} (s : Stage) (c : Chunk) (l k : List Chunk) {a : Access}
+    → Held P n x p taken f d → Matches (wantAt (midway p) (action x p)) a → levelAfter (at s p taken c l k) (valueWord a) false ≡ false
+stays-low {p = draining} s c l k h m = refl
+stays-low {p = dropping} s c l k h m = refl
+stays-low {p = opening} s c l k h m = refl
+stays-low {p = lowering w} s c l k h m = refl
+stays-low {p = switching} s c l k h m = refl
+stays-low {p = sending q w t} s c l k h m = refl
+stays-low {p = starting} s c l k h m = refl
+stays-low {p = releasing w} s c l k (held (c-release u)) m-write = high-start w ∙ u .down
+stays-low {p = waiting n} s c l k h m = refl
+stays-low {p = again n} s c l k h m = refl
+stays-low {p = taking n} s c l k h m = refl
+stays-low {p = closing} s c l k h m = refl
+stays-low {p = raising w} s c l k h m = refl
+stays-low {p = leaving} s c l k h m = refl
 
 module _ (early : List Chunk) (old : Array) where
-  same-rest : {t u : Seen} {h : Bool} {q : Option Chunk} → t ≡ u → showing t h q ≡ showing u h q
-  same-rest {h = h} {q = q} e = ap (λ (z : Seen). showing z h q) e
-
-  step-shows : (whole : List Chunk) {s : Driver} {d : Device} {a : Access} → Good whole s → OnDevice early old s d → Matches (want (stateOf s)) a
-      → see (showing (view early s) (upOf d) (doubtNow s)) a ≡ showing (view early (driverAfter s (valueWord a))) (upOf (effect d a)) (doubtNow (driverAfter s (valueWord a)))
-  step-shows whole {a = a} g (during {s} {p} {taken} {c} {l} {k} {f} y (held z)) m = edge early whole (Known s f) s c l k f g z m ∙ same-rest (watch early whole (at s p taken c l k) a g m)
+  step-shows : (whole : List Chunk) {s : Driver} {d : Device} {a : Access} → Good whole s → OnDevice early old s d → Matches (want (stateOf s)) a → see (view early s false) a ≡ view early (driverAfter s (valueWord a)) false
+  step-shows whole {a = a} g (during {s} {p} {taken} {c} {l} {k} {f} y z) m =
+      watch early whole (at s p taken c l k) false a g m ∙ ap (view early (driverAfter (at s p taken c l k) (valueWord a))) (stays-low s c l k z m)
 
   pub along : (whole : List Chunk) {d e : Device} {l : List Access} (s : Driver) → Good whole s → OnDevice early old s d → Makes (stateOf s) l → Trace AllOut d l e
-      → OnDevice early old (driven s l) e × (sees (showing (view early s) (upOf d) (doubtNow s)) l ≡ showing (view early (driven s l)) (upOf e) (doubtNow (driven s l)))
+      → OnDevice early old (driven s l) e × (sees (view early s false) l ≡ view early (driven s l) false)
   unfolding sees
   along whole s g y f still = (y, refl)
-  along whole s g y f (quiet {l = l} z t) =
-      let r = along whole s g (silent early old y z) f t in
-      (r .0, ap (λ (h : Bool). sees (showing (view early s) h (doubtNow s)) l) (sym (silent-up z)) ∙ r .1)
+  along whole s g y f (quiet z t) = along whole s g (silent early old y z) f t
   along whole s g y f (step {a = a} {l = l} i o t) =
       let r = along whole (driverAfter s (valueWord a)) (good-next whole s (valueWord a) g) (advance early old whole g y (f .0) i o) (follows-on s a l f) t in
       (r .0, ap (λ (x : Observed). sees x l) (step-shows whole g y (f .0)) ∙ r .1)
@@ -110,10 +117,10 @@ unfolding AfterCut
 works-cut new under h x e = h x e
 works-cut {m} new {c} past h x e = h x ∙ spared c m x e
 
--- x is no byte of the chunk in doubt
-abbrev Clear : Option Chunk → ℕ → Type 0
-Clear none x = Unit {0}
-Clear (some c) x = lands c x ≡ none
+-- x is no byte of a chunk in doubt
+abbrev Clear : List Chunk → ℕ → Type 0
+Clear [] x = Unit {0}
+Clear (c ∷ q) x = lands c x ≡ none
 
 stage-cut : (s : Stage) (b : Bool) (m new : Array) (c : Chunk) (f : Flash) → FlashAt s b m c f → AfterCut f new → (x : ℕ) → Clear (doubtAt s b c) x → new x ≡ m x
 stage-cut enables false m new c f y h x e = calm-cut new y h x
@@ -124,7 +131,7 @@ stage-cut polls b m new c f y h x e = works-cut new y h x e
 stage-cut clears b m new c f y h x e = absurd y
 stage-cut disables b m new c f y h x e = absurd y
 
-the-one : {c : Chunk} {l : List Chunk} → Fit c → NextOnly (some c) (c ∷ l)
+the-one : {c : Chunk} {l : List Chunk} → Fit c → NextOnly (c ∷ []) (c ∷ l)
 the-one f = the-next (f .sound .small) (f .in-page)
 
 next-only : (s : Stage) (b : Bool) (c : Chunk) (l : List Chunk) → Fit c → NextOnly (doubtAt s b c) (c ∷ l)
@@ -136,30 +143,48 @@ next-only clears b c l f = the-one f
 next-only disables b c l f = the-one f
 
 -- the chunk in doubt is the next: it holds no byte of a finished one, and none outside it
-clear-done : (q : Option Chunk) (k : List Chunk) (c : Chunk) (l : List Chunk) {b : Chunk} (i : ℕ) → Fit c → NextOnly q (c ∷ l) → Ordered (k ++ c ∷ l) → Among b k → i < length (b .bytes) → Clear q (b .address + i)
-clear-done none k c l i f n o m h = tt
-clear-done (some d) k c l {b} i f (the-next x y) o m h = lands-out c (b .address + i) f (inl (omega (arith, ordered-seam k c l o m)))
+clear-done : (q : List Chunk) (k : List Chunk) (c : Chunk) (l : List Chunk) {b : Chunk} (i : ℕ) → Fit c → NextOnly q (c ∷ l) → Ordered (k ++ c ∷ l) → Among b k → i < length (b .bytes) → Clear q (b .address + i)
+clear-done [] k c l i f n o m h = tt
+clear-done (d ∷ q) k c l {b} i f (the-next x y) o m h = lands-out c (b .address + i) f (inl (omega (arith, ordered-seam k c l o m)))
 
-clear-out : (q : Option Chunk) (c : Chunk) (l : List Chunk) (x : ℕ) → Fit c → NextOnly q (c ∷ l) → ((d : Chunk) → q ≡ some d → In x d → ⊥) → Clear q x
-clear-out none c l x f n h = tt
-clear-out (some d) c l x f (the-next y z) h = lands-out c x f (beside x (c .address) (length (c .bytes)) (h c refl))
+clear-out : (q : List Chunk) (c : Chunk) (l : List Chunk) (x : ℕ) → Fit c → NextOnly q (c ∷ l) → ((d : Chunk) → Among d q → In x d → ⊥) → Clear q x
+clear-out [] c l x f n h = tt
+clear-out (d ∷ q) c l x f (the-next y z) h = lands-out c x f (beside x (c .address) (length (c .bytes)) (h c here))
+
+-- of a device chip select has risen precisely at the transfer's last access
+risen-last : (p : Phase) → risenAt p false ≡ isLast p
+risen-last draining = refl
+risen-last dropping = refl
+risen-last opening = refl
+risen-last (lowering w) = refl
+risen-last switching = refl
+risen-last (sending q w t) = refl
+risen-last starting = refl
+risen-last (releasing w) = refl
+risen-last (waiting n) = refl
+risen-last (again n) = refl
+risen-last (taking n) = refl
+risen-last closing = refl
+risen-last (raising w) = refl
+risen-last leaving = refl
 
 module _ (a : ℕ) (bs : List ℕ) (old new : Array) where
-  kept-going : (s : Stage) (p : Phase) (taken : List ℕ) (c : Chunk) (l k : List Chunk) (h : Bool) (f : Flash) → Going (chunks a bs) s p taken c l k → FlashAt s (isLast p) (applied k old) c f → AfterCut f new
-      → Kept a bs old (showing (view [] (at s p taken c l k)) h (doubtNow (at s p taken c l k))) new
-  kept-going s p taken c l k h f g y z =
+  kept-going : (s : Stage) (p : Phase) (taken : List ℕ) (c : Chunk) (l k : List Chunk) (f : Flash) → Going (chunks a bs) s p taken c l k → FlashAt s (risenAt p false) (applied k old) c f → AfterCut f new
+      → Kept a bs old (view [] (at s p taken c l k) false) new
+  kept-going s p taken c l k f g y z =
       let o : Ordered (k ++ c ∷ l) = rw (g .parts) (chunks-ordered a bs) in
-      let w = next-only s (isLast p) c l (g .fits) in
+      let b = risenAt p false in
+      let w = next-only s b c l (g .fits) in
       record {
         left = c ∷ l;
         first = g .parts;
         next = w;
-        written = λ b m i e. stage-cut s (isLast p) (applied k old) new c f y z (b .address + i) (clear-done (doubtAt s (isLast p) c) k c l i (g .fits) w o m e) ∙ applied-in k old i (g .past) (ordered-front k (c ∷ l) o) m e;
-        same = λ x m e. stage-cut s (isLast p) (applied k old) new c f y z x (clear-out (doubtAt s (isLast p) c) c l x (g .fits) w e) ∙ applied-out k old x (g .past) m;
+        written = λ d m i e. stage-cut s b (applied k old) new c f y z (d .address + i) (clear-done (doubtAt s b c) k c l i (g .fits) w o m e) ∙ applied-in k old i (g .past) (ordered-front k (c ∷ l) o) m e;
+        same = λ x m e. stage-cut s b (applied k old) new c f y z x (clear-out (doubtAt s b c) c l x (g .fits) w e) ∙ applied-out k old x (g .past) m;
       }
 
-  kept-rest : (k l : List Chunk) (q : Option Chunk) (h : Bool) {f : Flash} → k ++ l ≡ chunks a bs → AllFit k → Calm (applied k old) f → AfterCut f new → Kept a bs old (showing (record { transfer = closed; programs = q; finished = k }) h none) new
-  kept-rest k l q h e i y z =
+  kept-rest : (k l : List Chunk) {f : Flash} → k ++ l ≡ chunks a bs → AllFit k → Calm (applied k old) f → AfterCut f new → Kept a bs old (record { transfer = closed; up = true; doubt = []; finished = k }) new
+  kept-rest k l e i y z =
       let o : Ordered (k ++ l) = rw e (chunks-ordered a bs) in
       record {
         left = l;
@@ -169,21 +194,21 @@ module _ (a : ℕ) (bs : List ℕ) (old new : Array) where
         same = λ x m e₁. calm-cut new y z x ∙ applied-out k old x i m;
       }
 
-  kept : {s : Driver} {e : Device} → Good (chunks a bs) s → OnDevice [] old s e → AfterCut (flashOf e) new → Kept a bs old (showing (view [] s) (upOf e) (doubtNow s)) new
-  kept g (during {s} {p} {taken} {c} {l} {k} {f} y (held {c = v} w)) z = kept-going s p taken c l k (high v) f g y z
-  kept g (on.ended {a = succeeded} {l} {k} {c} nf u y) z = kept-rest k l none (high c) (g .0 .parts) (g .0 .past) y z
-  kept g (on.ended {a = failed} {l} {k} {c} nf u y) z = absurd nf
-  kept g (on.ended {a = refuses b} {l} {k} {c} nf u y) z = kept-rest k l none (high c) (g .0 .parts) (g .0 .past) y z
+  kept : {s : Driver} {e : Device} → Good (chunks a bs) s → OnDevice [] old s e → AfterCut (flashOf e) new → Kept a bs old (view [] s false) new
+  kept g (during {s} {p} {taken} {c} {l} {k} {f} y (held w)) z = kept-going s p taken c l k f g (rw (risen-last p) y) z
+  kept g (on.ended {a = succeeded} {l} {k} nf u y) z = kept-rest k l (g .0 .parts) (g .0 .past) y z
+  kept g (on.ended {a = failed} nf u y) z = absurd nf
+  kept g (on.ended {a = refuses b} {l} {k} nf u y) z = kept-rest k l (g .0 .parts) (g .0 .past) y z
 
 -- ---- the start, and the whole
 
-start-shows : (a : ℕ) (bs : List ℕ) → (view [] (driverStart a bs) ≡ fresh .sofar) × (doubtNow (driverStart a bs) ≡ none)
+start-shows : (a : ℕ) (bs : List ℕ) → view [] (driverStart a bs) false ≡ fresh
 unfolding driverStart
 start-shows a bs = go (ltb 16777215 (a + length bs))
   where
-    go : (b : Bool) → (view [] (cond b (over (refuses OutOfRange) (chunks a bs) []) (startNext (chunks a bs) [])) ≡ fresh .sofar) × (doubtNow (cond b (over (refuses OutOfRange) (chunks a bs) []) (startNext (chunks a bs) [])) ≡ none)
-    go true = (refl, refl)
-    go false = (view-start [] (chunks a bs) [], start-doubt (chunks a bs) [])
+    go : (b : Bool) → view [] (cond b (over (refuses OutOfRange) (chunks a bs) []) (startNext (chunks a bs) [])) false ≡ fresh
+    go true = refl
+    go false = view-start [] (chunks a bs) [] false
 
 start-device : (a : ℕ) (bs : List ℕ) (old : Array) {c : ℕ} {w r : List ℕ} {latch : Bool} → Up c → OnDevice [] old (driverStart a bs) (device c [] [] w r (flash old latch none))
 unfolding driverStart applied
@@ -199,12 +224,10 @@ cut-at a bs h l f {d} {e} old new (rests {c} {w} {r} {latch} u₁₀ u₁₄ u�
     let u : Up c = record { up = u₁₀; unstarted = u₁₆; by-hand = both-set u₁₄ u₁₅ } in
     let o = along [] old (chunks a bs) (driverStart a bs) (good-driver a bs h) (start-device a bs old u) f t in
     let k = kept a bs old new (good-driven (chunks a bs) (driverStart a bs) l (good-driver a bs h)) (o .0) z in
-    let v = start-shows a bs in
-    let q₀ : fresh ≡ showing (view [] (driverStart a bs)) (high c) (doubtNow (driverStart a bs)) = rw (v .0, v .1, u₁₀) in
-    let q : sees fresh l ≡ showing (view [] (driven (driverStart a bs) l)) (upOf e) (doubtNow (driven (driverStart a bs) l)) = ap (λ (x : Observed). sees x l) q₀ ∙ o .1 in
+    let q : sees fresh l ≡ view [] (driven (driverStart a bs) l) false = ap (λ (x : Observed). sees x l) (sym (start-shows a bs)) ∙ o .1 in
     rw q k
 
-done-of : (d : Driver) → countIn (stateOf d) ≡ total (view [] d .finished)
+done-of : (d : Driver) → countIn (stateOf d) ≡ total (finishedBy d)
 done-of (at s p taken c l k) = refl
 done-of (over a l k) = refl
 
@@ -224,7 +247,7 @@ pub power-cut-of : (a : ℕ) (bs : List ℕ) → AllBytes bs → (l : List Acces
 unfolding observed
 power-cut-of a bs h l answer s f₀ e₀ done = record {
   cut = λ k i before after₁ old new y t z. cut-at a bs h (take k l) (follows-take k (stateOf d) l f) old new y t z;
-  counted = ap countIn ends-in ∙ done-of (driven d l) ∙ ap (λ (x : Seen). total (x .finished)) (sym shown);
+  counted = ap countIn ends-in ∙ done-of (driven d l) ∙ ap total (sym shown);
   whole = λ e. ap countIn ends-in ∙ whole-done (chunks a bs) (driven d l) (good-driven (chunks a bs) d l g) (ap statusIn (sym ends-in) ∙ done e) ∙ chunks-total a bs;
 }
   where
@@ -240,8 +263,8 @@ power-cut-of a bs h l answer s f₀ e₀ done = record {
     ends-in : s ≡ stateOf (driven d l)
     ends-in = e₀ ∙ ap (λ (z : State). after z l) (start-is a bs) ∙ driven-is d l
 
-    shown : sees fresh l .sofar ≡ view [] (driven d l)
-    shown = seen-all [] (chunks a bs) d l fresh (sym (start-shows a bs .0)) g f
+    shown : sees fresh l .finished ≡ finishedBy (driven d l)
+    shown = ap (λ (o : Observed). sees o l .finished) (sym (start-shows a bs)) ∙ sees-all [] (chunks a bs) d false l g f
 
 pub power-cut : (a : ℕ) (bs : List ℕ) → AllBytes bs → (room : ℕ) (replies : List ℕ) → PowerCutOf a bs (called (writePages a bs) room replies)
 power-cut a bs h room rs =

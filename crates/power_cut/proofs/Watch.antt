@@ -1,7 +1,6 @@
 -- What the observer has seen follows the driver, whatever the replies: at each state it is a function of the state. Assumes nothing.
 use mathlib.Core.Path.{_≡_, refl, ap, _∙_, sym}
 use mathlib.Core.Bool.{Bool, true, false, not, _&&_, cond}
-use mathlib.Core.Option.{Option, none, some}
 use mathlib.Core.List.{List, [], _∷_, _++_, append-assoc, append-nil, reverse}
 use Prim.Native.Nat.{ℕ, zero, suc, _+_, _/_, _%_, _^_, _≤_, _<_}
 use native.Mathlib.Omega.{arith}
@@ -17,12 +16,14 @@ use Rattle.qspi_operation.specs.Machine.{Want, reads, writes, want, Matches, m-
 use Rattle.qspi_calls.specs.Calls.{bytesOfAll, top}
 use Rattle.qspi_calls.proofs.WireOrder.{program-bytes}
 use Rattle.power_cut.specs.Flash.{pageProgram, commandOf, programOf, addressOf}
-use Rattle.power_cut.specs.Controller.{tx, registerAt, bytesOut, isStatusRead}
-use Rattle.power_cut.specs.Observer.{Transfer, closed, opened, Seen, commanded, isClean, enableWritten, seenWrite, seenRead, seen}
+use Rattle.qspi_transfer.specs.LowLevel.{chipSelectHigh, chipSelectLow, started}
+use Rattle.power_cut.specs.Controller.{tx, registerAt, bytesOut, high, isStatusRead}
+use Rattle.power_cut.specs.Observer.{Transfer, closed, opened, unread, Observed, commanded, raised, configWritten, isClean, enableWritten, seenWrite, seenRead, see}
 use Rattle.power_cut.specs.Observer as observer
 use Rattle.qspi_calls.proofs.Phases.{words}
 use Rattle.power_cut.proofs.Driver.{Phase, draining, dropping, opening, lowering, switching, sending, starting, releasing, waiting, again, taking, closing, raising, leaving, sendNext, takeNext, phaseAfter, Stage, enables, programs, polls, clears, disables, transferOf, Ending, succeeded, failed, refuses, Driver, at, over, stateOf, Verdict, accepts, refusesWith, verdictOn, startOn, startNext, settled, stageAfter, driverAfter}
 use Rattle.power_cut.proofs.Fits.{Fit, Going, Good}
+use Rattle.power_cut.proofs.Levels.{high-put, high-clear}
 
 -- ---- words on the wire
 
@@ -82,7 +83,7 @@ program-unclean c reply f = rw (program-asked c f)
 -- ---- what the observer has seen, at each state of the driver
 
 abbrev pub newest : List ℕ → ℕ
-newest [] = 0
+newest [] = unread
 newest (v ∷ taken) = v
 
 pub newest-one : (taken : List ℕ) → length taken ≡ 1 → top (reverse taken) ≡ topByte (newest taken)
@@ -106,89 +107,169 @@ transferAt s c closing taken = opened (asked s c) (newest taken)
 transferAt s c (raising v) taken = opened (asked s c) (newest taken)
 transferAt s c leaving taken = opened (asked s c) (newest taken)
 
--- the program that is sent and not finished: known once its transfer has closed
-abbrev pub programsAt : Stage → Chunk → Option Chunk
-programsAt enables c = none
-programsAt programs c = none
-programsAt polls c = some c
-programsAt clears c = some c
-programsAt disables c = some c
+-- chip select, where h says how the write that starts the transfer left it: a reply decides that, and of a device it is low
+abbrev pub upAt : Phase → Bool → Bool
+upAt draining h = true
+upAt dropping h = true
+upAt opening h = true
+upAt (lowering v) h = true
+upAt switching h = false
+upAt (sending q w l) h = false
+upAt starting h = false
+upAt (releasing v) h = false
+upAt (waiting n) h = h
+upAt (again n) h = h
+upAt (taking n) h = h
+upAt closing h = h
+upAt (raising v) h = h
+upAt leaving h = true
 
-abbrev pub firstOf : List Chunk → Option Chunk
-firstOf [] = none
-firstOf (c ∷ l) = some c
+-- whether it has risen since the words were sent
+abbrev pub risenAt : Phase → Bool → Bool
+risenAt draining h = false
+risenAt dropping h = false
+risenAt opening h = false
+risenAt (lowering v) h = false
+risenAt switching h = false
+risenAt (sending q w l) h = false
+risenAt starting h = false
+risenAt (releasing v) h = false
+risenAt (waiting n) h = h
+risenAt (again n) h = h
+risenAt (taking n) h = h
+risenAt closing h = h
+risenAt (raising v) h = h
+risenAt leaving h = true
 
-abbrev pub programsEnd : Ending → List Chunk → Option Chunk
-programsEnd succeeded l = none
-programsEnd failed l = firstOf l
-programsEnd (refuses a) l = none
+-- before and after the rising chip select of the stage's transfer
+abbrev pub doubtAt : Stage → Bool → Chunk → List Chunk
+doubtAt enables b c = []
+doubtAt programs false c = []
+doubtAt programs true c = c ∷ []
+doubtAt polls b c = c ∷ []
+doubtAt clears b c = c ∷ []
+doubtAt disables b c = c ∷ []
+
+abbrev pub firstOf : List Chunk → List Chunk
+firstOf [] = []
+firstOf (c ∷ l) = c ∷ []
+
+abbrev pub doubtEnd : Ending → List Chunk → List Chunk
+doubtEnd succeeded l = []
+doubtEnd failed l = firstOf l
+doubtEnd (refuses a) l = []
+
+-- how an access of a value leaves chip select, where it starts the transfer
+abbrev pub levelAfter : Driver → ℕ → Bool → Bool
+levelAfter (at s draining taken c l k) v h = h
+levelAfter (at s dropping taken c l k) v h = h
+levelAfter (at s opening taken c l k) v h = h
+levelAfter (at s (lowering w) taken c l k) v h = h
+levelAfter (at s switching taken c l k) v h = h
+levelAfter (at s (sending q w t) taken c l k) v h = h
+levelAfter (at s starting taken c l k) v h = h
+levelAfter (at s (releasing w) taken c l k) v h = high v
+levelAfter (at s (waiting n) taken c l k) v h = h
+levelAfter (at s (again n) taken c l k) v h = h
+levelAfter (at s (taking n) taken c l k) v h = h
+levelAfter (at s closing taken c l k) v h = h
+levelAfter (at s (raising w) taken c l k) v h = h
+levelAfter (at s leaving taken c l k) v h = h
+levelAfter (over a l k) v h = h
+
+-- ---- a rising chip select
+
+rise-names : (s : Stage) (c : Chunk) (reply : ℕ) → Fit c → commanded (opened (asked s c) reply) (doubtAt s false c) ≡ doubtAt s true c
+unfolding commandOf bytesOut
+rise-names enables c reply f = refl
+rise-names programs c reply f = rw (asks-program c f)
+rise-names polls c reply f = refl
+rise-names clears c reply f = refl
+rise-names disables c reply f = refl
+
+-- from low
+starts-with : (h : Bool) (s : Stage) (c : Chunk) (reply : ℕ) → Fit c → raised false h (opened (asked s c) reply) (doubtAt s false c) ≡ doubtAt s h c
+unfolding raised
+starts-with true s c reply f = rise-names s c reply f
+starts-with false s c reply f = refl
+
+-- to high
+ends-with : (h : Bool) (s : Stage) (c : Chunk) (reply : ℕ) → Fit c → raised h true (opened (asked s c) reply) (doubtAt s h c) ≡ doubtAt s true c
+unfolding raised
+ends-with true s c reply f = refl
+ends-with false s c reply f = rise-names s c reply f
+
+-- ---- the view
 
 -- after the chunks of earlier calls
 module _ (early : List Chunk) where
-  abbrev pub view : Driver → Seen
-  view (at s p taken c l k) = record { transfer = transferAt s c p taken; programs = programsAt s c; finished = early ++ k }
-  view (over a l k) = record { transfer = closed; programs = programsEnd a l; finished = early ++ k }
+  abbrev showing : Transfer → Bool → List Chunk → List Chunk → Observed
+  showing t h q k = record { transfer = t; up = h; doubt = q; finished = early ++ k }
 
-  abbrev seenAs : Transfer → Stage → Chunk → List Chunk → Seen
-  seenAs t s c k = record { transfer = t; programs = programsAt s c; finished = early ++ k }
+  abbrev pub view : Driver → Bool → Observed
+  view (at s p taken c l k) h = showing (transferAt s c p taken) (upAt p h) (doubtAt s (risenAt p h) c) k
+  view (over a l k) h = showing closed true (doubtEnd a l) k
 
-  view-on : (y : Verdict) (c : Chunk) (l k : List Chunk) → view (startOn y c l k) ≡ record { transfer = closed; programs = none; finished = early ++ k }
-  view-on accepts c l k = refl
-  view-on (refusesWith a) c l k = refl
+  view-on : (y : Verdict) (c : Chunk) (l k : List Chunk) (h : Bool) → view (startOn y c l k) h ≡ showing closed true [] k
+  view-on accepts c l k h = refl
+  view-on (refusesWith a) c l k h = refl
 
-  pub view-start : (l k : List Chunk) → view (startNext l k) ≡ record { transfer = closed; programs = none; finished = early ++ k }
+  pub view-start : (l k : List Chunk) (h : Bool) → view (startNext l k) h ≡ showing closed true [] k
   unfolding startNext
-  view-start [] k = refl
-  view-start (c ∷ l) k = view-on (verdictOn c) c l k
+  view-start [] k h = refl
+  view-start (c ∷ l) k h = view-on (verdictOn c) c l k h
 
-  seen-settled : (e b : Bool) (t : Transfer) (c : Chunk) (l k : List Chunk) → commanded t (some c) ≡ some c → observer.closing (not e && not b) t (some c) (early ++ k) ≡ view (settled e b c l k)
+  -- a transfer closes
+  settled-view : (e b : Bool) (t : Transfer) (c : Chunk) (l k : List Chunk) (h : Bool) → observer.closing (not e && not b) (showing t true (c ∷ []) k) ≡ view (settled e b c l k) h
   unfolding observer.closing settled
-  seen-settled true b t c l k h = rw h
-  seen-settled false true t c l k h = rw h
-  seen-settled false false t c l k h =
-      ap (λ (z : List Chunk). record { transfer = closed; programs = none; finished = z }) (append-assoc early k (c ∷ [])) ∙ sym (view-start l (k ++ c ∷ []))
+  settled-view true b t c l k h = refl
+  settled-view false true t c l k h = refl
+  settled-view false false t c l k h =
+      ap (λ (z : List Chunk). record { transfer = closed; up = true; doubt = []; finished = z }) (append-assoc early k (c ∷ [])) ∙ sym (view-start l (k ++ c ∷ []) h)
 
-  seen-closing : (s : Stage) (taken : List ℕ) (c : Chunk) (l k : List Chunk) → Fit c → length taken ≡ transferOf s c .replies
-      → observer.closing (isClean (opened (asked s c) (newest taken))) (opened (asked s c) (newest taken)) (programsAt s c) (early ++ k) ≡ view (stageAfter s taken c l k)
-  unfolding observer.closing isClean isStatusRead commandOf bytesOut stageAfter settled
-  seen-closing enables taken c l k f e = refl
-  seen-closing programs taken c l k f e = rw (program-unclean c (newest taken) f, asks-program c f)
-  seen-closing polls taken c l k f e = rw (newest-one taken e) (seen-settled (isSet 6 (topByte (newest taken))) (isSet 0 (topByte (newest taken))) (opened (5 ∷ 0 ∷ []) (newest taken)) c l k refl)
-  seen-closing clears taken c l k f e = refl
-  seen-closing disables taken c l k f e = refl
+  closing-view : (s : Stage) (taken : List ℕ) (c : Chunk) (l k : List Chunk) (h : Bool) → Fit c → length taken ≡ transferOf s c .replies
+      → observer.closing (isClean (opened (asked s c) (newest taken))) (showing (opened (asked s c) (newest taken)) true (doubtAt s true c) k) ≡ view (stageAfter s taken c l k) h
+  unfolding observer.closing isClean isStatusRead bytesOut stageAfter settled
+  closing-view enables taken c l k h f e = refl
+  closing-view programs taken c l k h f e = rw (program-unclean c (newest taken) f)
+  closing-view polls taken c l k h f e = rw (newest-one taken e) (settled-view (isSet 6 (topByte (newest taken))) (isSet 0 (topByte (newest taken))) (opened (5 ∷ 0 ∷ []) (newest taken)) c l k h)
+  closing-view clears taken c l k h f e = refl
+  closing-view disables taken c l k h f e = refl
 
-  seen-or : (s : Stage) (c : Chunk) (b : Bool) (p q : Phase) (taken : List ℕ) (t : Transfer) → transferAt s c p taken ≡ t → transferAt s c q taken ≡ t → t ≡ transferAt s c (cond b p q) taken
-  seen-or s c true p q taken t e h = sym e
-  seen-or s c false p q taken t e h = sym h
+  module _ (s : Stage) (c : Chunk) (l k : List Chunk) (h : Bool) where
+    -- nothing is seen where a reply picks one of two phases that look the same
+    either : (b : Bool) (p q : Phase) (taken : List ℕ) (o : Observed) → view (at s p taken c l k) h ≡ o → view (at s q taken c l k) h ≡ o → o ≡ view (at s (cond b p q) taken c l k) h
+    either true p q taken o e i = sym e
+    either false p q taken o e i = sym i
 
-  seen-sends : (s : Stage) (c : Chunk) (q : List ℕ) (w : ℕ) (l taken : List ℕ) → q ++ w ∷ l ≡ words (transferOf s c)
-      → opened (flat (width s) q ++ bytesOut (width s) w) (newest taken) ≡ transferAt s c (sendNext (q ++ w ∷ []) l) taken
-  seen-sends s c q w [] taken e = ap (λ (z : List ℕ). opened z (newest taken)) (sym (flat-snoc (width s) q w) ∙ ap (flat (width s)) e)
-  seen-sends s c q w (v ∷ l) taken e = ap (λ (z : List ℕ). opened z (newest taken)) (sym (flat-snoc (width s) q w))
+    sent-view : (q : List ℕ) (w : ℕ) (t taken : List ℕ) → q ++ w ∷ t ≡ words (transferOf s c)
+        → showing (opened (flat (width s) q ++ bytesOut (width s) w) (newest taken)) false (doubtAt s false c) k ≡ view (at s (sendNext (q ++ w ∷ []) t) taken c l k) h
+    sent-view q w [] taken e = ap (λ (z : List ℕ). showing (opened z (newest taken)) false (doubtAt s false c) k) (sym (flat-snoc (width s) q w) ∙ ap (flat (width s)) e)
+    sent-view q w (v ∷ t) taken e = ap (λ (z : List ℕ). showing (opened z (newest taken)) false (doubtAt s false c) k) (sym (flat-snoc (width s) q w))
 
-  seen-take : (s : Stage) (c : Chunk) (n : ℕ) (taken : List ℕ) → opened (asked s c) (newest taken) ≡ transferAt s c (takeNext n) taken
-  seen-take s c zero taken = refl
-  seen-take s c (suc n) taken = refl
+    take-view : (n : ℕ) (taken : List ℕ) → showing (opened (asked s c) (newest taken)) h (doubtAt s h c) k ≡ view (at s (takeNext n) taken c l k) h
+    take-view zero taken = refl
+    take-view (suc n) taken = refl
 
-  pub watch-at : (whole : List Chunk) (s : Stage) (p : Phase) (taken : List ℕ) (c : Chunk) (l k : List Chunk) (a : Access) → Going whole s p taken c l k → Matches (want (stateOf (at s p taken c l k))) a
-      → seen (view (at s p taken c l k)) a ≡ view (driverAfter (at s p taken c l k) (valueWord a))
-  unfolding seen seenRead seenWrite enableWritten registerAt driverAfter phaseAfter
-  watch-at whole s draining taken c l k (access.Read o v) g m-read = ap (λ (z : Transfer). seenAs z s c k) (seen-or s c (waits v) dropping opening taken closed refl refl)
-  watch-at whole s dropping taken c l k a g m-read = refl
-  watch-at whole s opening taken c l k a g m-read = refl
-  watch-at whole s (lowering w) taken c l k a g m-write = refl
-  watch-at whole s switching taken c l k a g m-write = rw (g .count)
-  watch-at whole s (sending q w t) taken c l k a g m-write = rw (port-is s c) (ap (λ (z : Transfer). seenAs z s c k) (seen-sends s c q w t taken (g .split)))
-  watch-at whole s starting taken c l k a g m-read = refl
-  watch-at whole s (releasing w) taken c l k a g m-write = ap (λ (z : Transfer). seenAs z s c k) (seen-take s c (transferOf s c .replies) taken)
-  watch-at whole s (waiting n) taken c l k (access.Read o v) g m-read =
-      ap (λ (z : Transfer). seenAs z s c k)
-      (seen-or s c (waits v) (cond (transferOf s c .twice) (again n) (taking n)) (waiting n) taken (opened (asked s c) (newest taken)) (sym (seen-or s c (transferOf s c .twice) (again n) (taking n) taken (opened (asked s c) (newest taken)) refl refl)) refl)
-  watch-at whole s (again n) taken c l k (access.Read o v) g m-read = ap (λ (z : Transfer). seenAs z s c k) (seen-or s c (waits v) (taking n) (waiting n) taken (opened (asked s c) (newest taken)) refl refl)
-  watch-at whole s (taking n) taken c l k (access.Read o v) g m-read = ap (λ (z : Transfer). seenAs z s c k) (seen-take s c n (v ∷ taken))
-  watch-at whole s closing taken c l k a g m-read = refl
-  watch-at whole s (raising w) taken c l k a g m-write = refl
-  watch-at whole s leaving taken c l k a g m-write = seen-closing s taken c l k (g .fits) (g .count)
+  -- THEOREM. Of an access that is due the observer sees what the driver's next state shows.
+  pub watch-at : (whole : List Chunk) (s : Stage) (p : Phase) (taken : List ℕ) (c : Chunk) (l k : List Chunk) (h : Bool) (a : Access) → Going whole s p taken c l k → Matches (want (stateOf (at s p taken c l k))) a
+      → see (view (at s p taken c l k) h) a ≡ view (driverAfter (at s p taken c l k) (valueWord a)) (levelAfter (at s p taken c l k) (valueWord a) h)
+  unfolding see seenRead seenWrite configWritten enableWritten registerAt driverAfter phaseAfter raised
+  watch-at whole s draining taken c l k h (access.Read o v) g m-read = either s c l k h (waits v) dropping opening taken _ refl refl
+  watch-at whole s dropping taken c l k h a g m-read = refl
+  watch-at whole s opening taken c l k h a g m-read = refl
+  watch-at whole s (lowering w) taken c l k h a g m-write = rw (high-clear w)
+  watch-at whole s switching taken c l k h a g m-write = rw (g .count)
+  watch-at whole s (sending q w t) taken c l k h a g m-write = rw (port-is s c) (sent-view s c l k h q w t taken (g .split))
+  watch-at whole s starting taken c l k h a g m-read = refl
+  watch-at whole s (releasing w) taken c l k h a g m-write = rw (starts-with (high (started w)) s c (newest taken) (g .fits)) (take-view s c l k (high (started w)) (transferOf s c .replies) taken)
+  watch-at whole s (waiting n) taken c l k h (access.Read o v) g m-read =
+      either s c l k h (waits v) (cond (transferOf s c .twice) (again n) (taking n)) (waiting n) taken _ (sym (either s c l k h (transferOf s c .twice) (again n) (taking n) taken _ refl refl)) refl
+  watch-at whole s (again n) taken c l k h (access.Read o v) g m-read = either s c l k h (waits v) (taking n) (waiting n) taken _ refl refl
+  watch-at whole s (taking n) taken c l k h (access.Read o v) g m-read = take-view s c l k h n (v ∷ taken)
+  watch-at whole s closing taken c l k h a g m-read = refl
+  watch-at whole s (raising w) taken c l k h a g m-write = rw (high-put w, ends-with h s c (newest taken) (g .fits))
+  watch-at whole s leaving taken c l k h a g m-write = closing-view s taken c l k h (g .fits) (g .count)
 
-  pub watch : (whole : List Chunk) (d : Driver) (a : Access) → Good whole d → Matches (want (stateOf d)) a → seen (view d) a ≡ view (driverAfter d (valueWord a))
-  watch whole (at s p taken c l k) a g m = watch-at whole s p taken c l k a g m
+  pub watch : (whole : List Chunk) (d : Driver) (h : Bool) (a : Access) → Good whole d → Matches (want (stateOf d)) a → see (view d h) a ≡ view (driverAfter d (valueWord a)) (levelAfter d (valueWord a) h)
+  watch whole (at s p taken c l k) h a g m = watch-at whole s p taken c l k h a g m

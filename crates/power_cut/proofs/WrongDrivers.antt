@@ -13,7 +13,7 @@ use Rattle.qspi_operation.specs.Machine.{ends, counts, exchange, Result, runs, 
 use Rattle.qspi_calls.specs.Calls.{enabling, statusReading, programming, settling, working}
 use Rattle.power_cut.specs.Flash.{flash, programOf, eraseOf, commandOf, byteAddress, landsFrom, lands, programmed, obey, execute, settles, AfterCut}
 use Rattle.power_cut.specs.Controller.{registerAt, bytesOut, isStatusRead, Device, device, flashOf, out, idle, configured, afterWrite, afterRead, effect, GivenBy, Gives, AllOut, Trace, still, quiet, step, rests}
-use Rattle.power_cut.specs.Observer.{isClean, closing, enableWritten, seenWrite, seenRead, seen, raised, doubtEnable, doubtAfter, see, sees, observed}
+use Rattle.power_cut.specs.Observer.{raised, configWritten, isClean, closing, enableWritten, seenWrite, seenRead, see, sees, observed}
 use Rattle.power_cut.specs.Statement.{total, Kept}
 use Rattle.power_cut.proofs.Theorem.{PowerCutOf}
 use Rattle.power_cut.proofs.Examples.{line, line-chunk, blank, unread, told, none-left, still-low}
@@ -63,8 +63,8 @@ unenabled-trace =
     (step {a = access.Write 0x00 0x8008C4C1} tt none-left
     (step {a = access.Write 0x14 0x00} tt tt still)))))))))))))))))))))))))))))))
 
-unenabled-shown : observed (unenabled .log) .sofar .finished ≡ line-chunk ∷ []
-unfolding runs observed sees see seen seenRead seenWrite enableWritten closing isClean isStatusRead raised doubtEnable doubtAfter registerAt bytesOut commandOf programOf eraseOf
+unenabled-shown : observed (unenabled .log) .finished ≡ line-chunk ∷ []
+unfolding runs observed sees see seenRead seenWrite configWritten enableWritten closing isClean isStatusRead raised registerAt bytesOut commandOf programOf eraseOf
 unenabled-shown = refl
 
 unenabled-cut : AfterCut (flash blank false none) blank
@@ -73,7 +73,7 @@ unenabled-cut x = refl
 
 unenabled-kept : Kept 0x000100 line blank (observed (unenabled .log)) blank → ⊥
 unenabled-kept k =
-    let m : Among line-chunk (observed (unenabled .log) .sofar .finished) = rw unenabled-shown here in
+    let m : Among line-chunk (observed (unenabled .log) .finished) = rw unenabled-shown here in
     let e : _≡_ {A = ℕ} 0xFF 0xDE = k .written line-chunk m 0 (omega arith) in
     omega (arith, e)
 
@@ -152,8 +152,8 @@ unchecked-trace =
     (step {a = access.Write 0x00 0x8008C4C1} tt none-left
     (step {a = access.Write 0x14 0x00} tt tt still))))))))))))))))))))))))))))))))))))))))))))))))))
 
-unchecked-shown : observed (unchecked .log) .sofar .finished ≡ crossing ∷ []
-unfolding runs observed sees see seen seenRead seenWrite enableWritten closing isClean isStatusRead raised doubtEnable doubtAfter registerAt bytesOut commandOf programOf eraseOf
+unchecked-shown : observed (unchecked .log) .finished ≡ crossing ∷ []
+unfolding runs observed sees see seenRead seenWrite configWritten enableWritten closing isClean isStatusRead raised registerAt bytesOut commandOf programOf eraseOf
 unchecked-shown = refl
 
 unchecked-cut : AfterCut (flashOf wrapped) (programmed crossing blank)
@@ -163,7 +163,7 @@ unchecked-cut x = refl
 unchecked-kept : Kept 0x0000FC eight blank (observed (unchecked .log)) (programmed crossing blank) → ⊥
 unfolding programmed lands landsFrom byteAddress
 unchecked-kept k =
-    let m : Among crossing (observed (unchecked .log) .sofar .finished) = rw unchecked-shown here in
+    let m : Among crossing (observed (unchecked .log) .finished) = rw unchecked-shown here in
     let e : _≡_ {A = ℕ} 0xFF 0x05 = k .written crossing m 4 (omega arith) in
     omega (arith, e)
 
@@ -180,7 +180,7 @@ hasty = called (exchange enabling (λ rs. exchange (programming 0x000100 line) (
     0x10 ∷ 0x00 ∷ 0x00 ∷ 0x8008C4C1 ∷ 0x8008C0C1 ∷ 0x10 ∷ 0x01000000 ∷ 0x8008C0C1 ∷ [])
 
 pub busy-taken-for-done : PowerCutOf 0x000100 line hasty → ⊥
-unfolding runs observed sees see seen seenRead seenWrite enableWritten closing isClean isStatusRead raised doubtEnable doubtAfter registerAt bytesOut commandOf programOf eraseOf total
+unfolding runs observed sees see seenRead seenWrite configWritten enableWritten closing isClean isStatusRead raised registerAt bytesOut commandOf programOf eraseOf total
 busy-taken-for-done p = let e : _≡_ {A = ℕ} 4 0 = p .counted in omega (arith, e)
 
 abbrev counted-early : Result
@@ -189,5 +189,5 @@ counted-early = called (exchange enabling (λ rs. exchange (programming 0x000100
     0x00 ∷ 0x8008C4C1 ∷ 0x8008C0C1 ∷ 0x10 ∷ 0x10 ∷ 0x00 ∷ 0x8008C0C1 ∷ [])
 
 pub counted-before-clean : PowerCutOf 0x000100 line counted-early → ⊥
-unfolding runs observed sees see seen seenRead seenWrite enableWritten closing isClean isStatusRead raised doubtEnable doubtAfter registerAt bytesOut commandOf programOf eraseOf total
+unfolding runs observed sees see seenRead seenWrite configWritten enableWritten closing isClean isStatusRead raised registerAt bytesOut commandOf programOf eraseOf total
 counted-before-clean p = let e : _≡_ {A = ℕ} 4 0 = p .counted in omega (arith, e)

@@ -1,7 +1,6 @@
 -- The power-cut statement: demand 3 of the request, in the terms of document 01. docs/ARCHITECTURE.md, "How to read the power-cut statement".
 use Prim.Native.Nat.{ℕ, _+_, _%_, _≤_, _<_}
 use mathlib.Core.Path.{_≡_}
-use mathlib.Core.Option.{Option, none, some}
 use mathlib.Core.List.{List, [], _∷_, _++_}
 use lib.Bits.{bitAnd}
 use lib.ListN.{length, getD, take}
@@ -23,24 +22,24 @@ unfoldable pub total : List Chunk → ℕ
 total [] = 0
 total (c ∷ l) = length (c .bytes) + total l
 
--- "at most one chunk, the next, is in doubt, at most 128 bytes within one page"
-pub data NextOnly : Option Chunk → List Chunk → Type 0 where
-  no-doubt : {left : List Chunk} → NextOnly none left
-  the-next : {c : Chunk} {left : List Chunk} → length (c .bytes) ≤ 128 → c .address % 256 + length (c .bytes) ≤ 256 → NextOnly (some c) (c ∷ left)
+-- "at most one chunk, the next, is in doubt, at most 128 bytes within one page": of the chunks in doubt, and those that are not finished
+pub data NextOnly : List Chunk → List Chunk → Type 0 where
+  no-doubt : {left : List Chunk} → NextOnly [] left
+  the-next : {c : Chunk} {left : List Chunk} → length (c .bytes) ≤ 128 → c .address % 256 + length (c .bytes) ≤ 256 → NextOnly (c ∷ []) (c ∷ left)
 
 -- ---- the array after a cut, against what the log up to the cut shows
 
 pub record Kept (a : ℕ) (bs : List ℕ) (old : Array) (o : Observed) (new : Array) : Type 0 where
   -- "the finished chunks are the first of the data in order"
   pub left : List Chunk
-  pub first : o .sofar .finished ++ left ≡ chunks a bs
+  pub first : o .finished ++ left ≡ chunks a bs
   -- "and at most one chunk, the next, is in doubt"
   pub next : NextOnly (o .doubt) left
   -- "Each byte of a finished chunk is the byte there before the call AND its data byte"
-  pub written : (c : Chunk) → Among c (o .sofar .finished) → (i : ℕ) → i < length (c .bytes)
+  pub written : (c : Chunk) → Among c (o .finished) → (i : ℕ) → i < length (c .bytes)
       → new (c .address + i) ≡ bitAnd (old (c .address + i)) (getD (c .bytes) i 0)
   -- "every byte in neither is the one before the call"
-  pub same : (x : ℕ) → ((c : Chunk) → Among c (o .sofar .finished) → In x c → ⊥) → ((c : Chunk) → o .doubt ≡ some c → In x c → ⊥)
+  pub same : (x : ℕ) → ((c : Chunk) → Among c (o .finished) → In x c → ⊥) → ((c : Chunk) → Among c (o .doubt) → In x c → ⊥)
       → new x ≡ old x
 
 -- ---- the claim about a whole run of write_pages at a, of bs: its accesses, its answer, its count of programmed bytes
@@ -53,6 +52,6 @@ pub record PowerCut (a : ℕ) (bs : List ℕ) (log : List Access) (answer : Stat
       → AfterCut (flashOf after) new → Kept a bs old (observed (take k log)) new
   -- "The count of programmed bytes in the answer, a refusal included, is the sum of the lengths of the chunks finished at the call's end":
   -- whatever the replies
-  pub counted : count ≡ total (observed log .sofar .finished)
+  pub counted : count ≡ total (observed log .finished)
   -- "and the whole length where the call succeeds"
   pub whole : answer ≡ Done → count ≡ length bs
