@@ -18,7 +18,6 @@ use Rattle.power_cut.specs.Flash.{Array, Flash, flash, busy, programOf, 
 use Rattle.power_cut.specs.Controller.{registerAt, bytesOut, isStatusRead, showsBusy, showsProgramError, showsEraseError, Device, device, flashOf, Shows, out, idle, configured, afterWrite, afterRead, effect, GivenBy, Gives, AllOut, Trace, still, quiet, step, Rests, rests}
 use Rattle.power_cut.specs.Observer.{Observed, raised, configWritten, isClean, closing, enableWritten, seenWrite, seenRead, see, sees, observed}
 use Rattle.power_cut.specs.Statement.{Kept}
-use Rattle.power_cut.specs.Witness.{Accepted}
 
 abbrev pub line : List ℕ
 line = 0xDE ∷ 0xAD ∷ 0xBE ∷ 0xEF ∷ []
@@ -60,14 +59,6 @@ at-rest = device 0x8008C4C1 [] [] [] (0x07 ∷ []) (flash blank false none)
 
 pub is-at-rest : Rests blank at-rest
 is-at-rest = rests refl refl refl refl
-
--- the call is one that `possible` speaks of
-only-chunk : {c : Chunk} → Among c (chunks 0x000100 line) → c ≡ line-chunk
-unfolding chunks chunksIn
-only-chunk here = refl
-
-pub is-accepted : Accepted 0x000100 line
-is-accepted = record { in-range = omega arith; fours = λ c m. rw (only-chunk m) refl; in-page = λ c m. rw (only-chunk m) (omega arith) }
 
 pub succeeds : (ran .answer ≡ Done) × (countIn (ran .state) ≡ 4)
 unfolding runs chunks chunksIn

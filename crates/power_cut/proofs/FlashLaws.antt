@@ -10,7 +10,7 @@ use lib.Dec.{eqb, leb, ltb}
 use borrow.Author.Tests.{eqb-true, eqb-false, leb-true, le-leb, lt-ltb, le-ltb}
 use Rattle.power_cut.specs.Flash.{Array, addressOf, programOf, eraseOf, commandOf, byteAddress, landsFrom, lands, erased, Flash, flash, obey, execute, Settles, settles}
 
-abbrev arrayOf : Flash → Array
+abbrev pub arrayOf : Flash → Array
 arrayOf (flash m latch w) = m
 
 outside : (h x : ℕ) → (x / 65536 ≡ h → ⊥) → h * 65536 ≤ x → h * 65536 + 65536 ≤ x
