@@ -10,14 +10,16 @@ use native.Mathlib.Omega.{arith}
 use lib.ListN.{take}
 use Rattle.zynq7000.specs.declared.qspi.Access.{Access}
 use Rattle.zynq7000.specs.declared.qspi.Access.the-variants as access
-use Rattle.qspi_script.specs.declared.Status.the-variants.{Done}
+use Rattle.qspi_script.specs.declared.Status.the-variants.{Done, NotAligned, CrossesPageBoundary}
 use Rattle.qspi_calls.specs.Chunks.{Chunk, chunksIn, chunks, Among, here}
 use Rattle.qspi_operation.specs.Machine.{Result, countIn, runs, called}
-use Rattle.qspi_calls.specs.Calls.{writePages}
+use Rattle.qspi_calls.specs.Calls.{zeros, writePages}
 use Rattle.power_cut.specs.Flash.{Array, Flash, flash, busy, programOf, eraseOf, commandOf, programmed, obey, execute, settles, AfterCut}
 use Rattle.power_cut.specs.Controller.{registerAt, bytesOut, isStatusRead, showsBusy, showsProgramError, showsEraseError, Device, device, flashOf, Shows, out, idle, configured, afterWrite, afterRead, effect, GivenBy, Gives, AllOut, Trace, still, quiet, step, Rests, rests}
 use Rattle.power_cut.specs.Observer.{Observed, raised, configWritten, isClean, closing, enableWritten, seenWrite, seenRead, see, sees, observed}
 use Rattle.power_cut.specs.Statement.{Kept}
+use Rattle.power_cut.specs.Witness.{endOf, doneOf, comesTo, finishes}
+use Rattle.power_cut.proofs.ControllerLaws.{any-such-status, any-other-reply}
 
 abbrev pub line : List ℕ
 line = 0xDE ∷ 0xAD ∷ 0xBE ∷ 0xEF ∷ []
@@ -30,10 +32,10 @@ blank x = 0xFF
 
 -- a reply to no status read, and one to a status read
 pub unread : {c : ℕ} {f : Flash} {bs : List ℕ} {v : ℕ} → isStatusRead bs ≡ false → Shows c f bs v
-unread e = record { shown = λ d h. absurd (true≢false (sym h ∙ e)); no-error = λ d h. absurd (true≢false (sym h ∙ e)) }
+unread {c} {f} {bs} {v} e = any-other-reply c f bs v e
 
 pub told : {c : ℕ} {f : Flash} {bs : List ℕ} {v : ℕ} → showsBusy v ≡ busy f → showsProgramError v ≡ false → showsEraseError v ≡ false → Shows c f bs v
-told b p e = record { shown = λ d h. b; no-error = λ d h. (p, e) }
+told {c} {f} {bs} {v} b p e = any-such-status c f bs v b p e
 
 -- all words are out where chip select rises; where it stays low nothing is asked
 pub none-left : {A B : Type 0} → A → B → _≡_ {A = List (List ℕ)} [] []
@@ -152,6 +154,20 @@ before-the-closing = (refl, refl)
 pub after-the-closing : (shown-at 55 .doubt ≡ []) × (shown-at 55 .finished ≡ line-chunk ∷ [])
 unfolding runs chunks chunksIn observed sees see seenRead seenWrite configWritten enableWritten closing isClean isStatusRead raised registerAt bytesOut commandOf programOf eraseOf
 after-the-closing = (refl, refl)
+
+-- ---- calls that `possible` speaks of: rules 4 and 5 come after a finished chunk
+
+abbrev first-chunk : ℕ → Chunk
+first-chunk a = record { address = a; bytes = zeros 128 }
+
+-- 130 bytes at 000100, and 256 bytes at 000040
+pub four-after-a-chunk : (comesTo 0x000100 (zeros 130) ≡ NotAligned) × (finishes 0x000100 (zeros 130) ≡ first-chunk 0x000100 ∷ [])
+unfolding comesTo finishes endOf doneOf chunks chunksIn
+four-after-a-chunk = (refl, refl)
+
+pub five-after-a-chunk : (comesTo 0x000040 (zeros 256) ≡ CrossesPageBoundary) × (finishes 0x000040 (zeros 256) ≡ first-chunk 0x000040 ∷ [])
+unfolding comesTo finishes endOf doneOf chunks chunksIn
+five-after-a-chunk = (refl, refl)
 
 -- ---- without the premise on words
 

@@ -1,5 +1,5 @@
--- The definition of the flash read back: an erase makes the sector that holds its address FF and nothing else, both commands need the latch,
--- and no command reaches past the array's 16,777,216 bytes. Assumes nothing.
+-- The definition of the flash read back, sentence by sentence of document 01, "The flash, as defined here": what each command does to array,
+-- latch and work, what a busy flash ignores, what a cut may leave, and that no command reaches past the array. Assumes nothing.
 use mathlib.Core.Path.{_≡_, refl, ap, _∙_}
 use mathlib.Core.Bool.{Bool, true, false, cond, _&&_, true≢false}
 use mathlib.Core.Option.{none, some}
@@ -8,7 +8,7 @@ use Prim.Native.Nat.{ℕ, suc, _+_, _*_, _/_, _≤_, _<_}
 use native.Mathlib.Omega.{arith}
 use lib.Dec.{eqb, leb, ltb}
 use borrow.Author.Tests.{eqb-true, eqb-false, leb-true, le-leb, lt-ltb, le-ltb}
-use Rattle.power_cut.specs.Flash.{Array, addressOf, programOf, eraseOf, commandOf, byteAddress, landsFrom, lands, erased, Flash, flash, obey, execute, Settles, settles}
+use Rattle.power_cut.specs.Flash.{Array, addressOf, programOf, eraseOf, commandOf, byteAddress, landsFrom, lands, erased, Work, programming, erasing, done, Spares, Flash, flash, obey, execute, Settles, settles, AfterCut}
 
 abbrev pub arrayOf : Flash → Array
 arrayOf (flash m latch w) = m
@@ -34,6 +34,65 @@ unfolding execute obey commandOf eraseOf
 erase-law m h l₁ l₀ x p q settles =
     let e : addressOf h l₁ l₀ / 65536 * 65536 ≡ h * 65536 = omega arith in
     ap (λ (z : ℕ). erased z 65536 m x) e ∙ erased-by h x m (eqb (x / 65536) h) refl
+
+-- "Write enable (06) sets the latch", whatever comes behind the byte
+pub enable-sets : (m : Array) (latch : Bool) (bs : List ℕ) → execute (flash m latch none) (0x06 ∷ bs) ≡ flash m true none
+unfolding execute obey commandOf
+enable-sets m latch bs = refl
+
+-- "write disable (04) clears it"
+pub disable-clears : (m : Array) (latch : Bool) (bs : List ℕ) → execute (flash m latch none) (0x04 ∷ bs) ≡ flash m false none
+unfolding execute obey commandOf
+disable-clears m latch bs = refl
+
+-- "status read (05) and clear status (30)" touch neither array nor latch
+pub status-keeps : (m : Array) (latch : Bool) (bs : List ℕ) → execute (flash m latch none) (0x05 ∷ bs) ≡ flash m latch none
+unfolding execute obey commandOf
+status-keeps m latch bs = refl
+
+pub clear-status-keeps : (m : Array) (latch : Bool) (bs : List ℕ) → execute (flash m latch none) (0x30 ∷ bs) ≡ flash m latch none
+unfolding execute obey commandOf
+clear-status-keeps m latch bs = refl
+
+-- and so does every other command
+pub other-keeps : (m : Array) (latch : Bool) (b : ℕ) (bs : List ℕ) → eqb b 0x06 ≡ false → eqb b 0x04 ≡ false → eqb b 0x02 ≡ false → eqb b 0xD8 ≡ false → eqb b 0x05 ≡ false → eqb b 0x30 ≡ false
+    → execute (flash m latch none) (b ∷ bs) ≡ flash m latch none
+unfolding execute obey commandOf
+other-keeps m latch b bs e₁ e₂ e₃ e₄ e₅ e₆ = rw (e₁, e₂, e₃, e₄, e₅, e₆)
+
+pub silence-keeps : (m : Array) (latch : Bool) → execute (flash m latch none) [] ≡ flash m latch none
+unfolding execute obey commandOf
+silence-keeps m latch = refl
+
+-- "While busy only status read (05) and clear status (30) are obeyed": array, latch and work stay, whatever is sent
+pub busy-keeps : (m : Array) (latch : Bool) (w : Work) (bs : List ℕ) → execute (flash m latch (some w)) bs ≡ flash m latch (some w)
+unfolding execute
+busy-keeps m latch w bs = refl
+
+-- "Page program (02) and sector erase (D8) need the latch, clear it and make the device busy"
+pub program-works : (m : Array) (h l₁ l₀ d : ℕ) (ds : List ℕ)
+    → execute (flash m true none) (0x02 ∷ h ∷ l₁ ∷ l₀ ∷ d ∷ ds) ≡ flash m false (some (programming (record { address = h * 65536 + l₁ * 256 + l₀; bytes = d ∷ ds })))
+unfolding execute obey commandOf programOf
+program-works m h l₁ l₀ d ds = refl
+
+pub erase-works : (m : Array) (h l₁ l₀ : ℕ) (ds : List ℕ) → l₁ < 256 → l₀ < 256 → execute (flash m true none) (0xD8 ∷ h ∷ l₁ ∷ l₀ ∷ ds) ≡ flash m false (some (erasing (h * 65536) 65536))
+unfolding execute obey commandOf eraseOf
+erase-works m h l₁ l₀ ds p q =
+    let e : addressOf h l₁ l₀ / 65536 * 65536 ≡ h * 65536 = omega arith in
+    ap (λ (z : ℕ). flash m false (some (erasing z 65536))) e
+
+-- "until it is idle. Then ..": the work is done, and the latch stays
+pub settled-does : {m : Array} {latch : Bool} {w : Work} {g : Flash} → Settles (flash m latch (some w)) g → g ≡ flash (done w m) latch none
+settled-does settles = refl
+
+-- "after it, a byte in doubt may hold anything and no other changes": so much is left free, and no more
+pub cut-leaves-any : (m new : Array) (latch : Bool) (w : Work) → ((x : ℕ) → Spares w x → new x ≡ m x) → AfterCut (flash m latch (some w)) new
+unfolding AfterCut
+cut-leaves-any m new latch w h = h
+
+pub cut-of-idle : (m new : Array) (latch : Bool) → AfterCut (flash m latch none) new → (x : ℕ) → new x ≡ m x
+unfolding AfterCut
+cut-of-idle m new latch h = h
 
 -- "need the latch"
 pub program-needs-latch : (m : Array) (bs : List ℕ) → execute (flash m false none) (0x02 ∷ bs) ≡ flash m false none

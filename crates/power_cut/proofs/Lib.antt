@@ -11,6 +11,8 @@ pub mod Offsets
 pub mod Ways
 pub mod Possible
 pub mod FlashLaws
+pub mod ControllerLaws
+pub mod ObserverLaws
 pub mod Examples
 pub mod WrongDrivers
 pub mod Promised

@@ -153,9 +153,10 @@ unfolding ending-of past-of endOf doneOf
 ends-as [] s r = (refl, refl)
 ends-as (c ∷ l) s r =
     let v = judged-one c (s .0) (r c here) in
-    let x = ends-as l (s .1) (λ b m. r b (there m)) in
-    (ap (λ (y : Verdict). endingStatus (endingBy y (ending-of l))) v ∙ status-by (fours-in c) (crosses-in c) (ending-of l) ∙ ap (unlessRefused (refusal c)) (x .0),
-    ap (λ (y : Verdict). pastBy y c (past-of l)) v ∙ past-by (fours-in c) (crosses-in c) c (past-of l) ∙ ap (andBefore (refusal c) c) (x .1))
+    let x = ends-as l (s .1) (λ b m. r b (there m)) in (
+      ap (λ (y : Verdict). endingStatus (endingBy y (ending-of l))) v ∙ status-by (fours-in c) (crosses-in c) (ending-of l) ∙ ap (unlessRefused (refusal c)) (x .0),
+      ap (λ (y : Verdict). pastBy y c (past-of l)) v ∙ past-by (fours-in c) (crosses-in c) c (past-of l) ∙ ap (andBefore (refusal c) c) (x .1),
+    )
 
 -- ---- a prefix of a trace is a trace
 

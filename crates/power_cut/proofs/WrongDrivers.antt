@@ -1,9 +1,9 @@
 -- Drivers that the power-cut statement excludes, each by a run on a device that meets the premises: no write enable, no page check, a busy
--- status taken for done, bytes counted before their status is clean. Assumes nothing.
+-- status taken for done, bytes counted before their status is clean, two programs one after the other without a status between them. Assumes nothing.
 use mathlib.Core.Path.{_≡_, refl}
 use mathlib.Core.Bool.{false}
-use mathlib.Core.Option.{none}
-use mathlib.Core.List.{List, [], _∷_}
+use mathlib.Core.Option.{none, some}
+use mathlib.Core.List.{List, [], _∷_, _++_}
 use Prim.Native.Nat.{ℕ}
 use native.Mathlib.Omega.{arith}
 use Rattle.zynq7000.specs.declared.qspi.Access.the-variants as access
@@ -11,10 +11,10 @@ use Rattle.qspi_script.specs.declared.Status.the-variants.{Done, ProgrammingErr
 use Rattle.qspi_calls.specs.Chunks.{Chunk, Among, here}
 use Rattle.qspi_operation.specs.Machine.{ends, counts, exchange, Result, runs, called}
 use Rattle.qspi_calls.specs.Calls.{enabling, statusReading, programming, settling, working}
-use Rattle.power_cut.specs.Flash.{flash, programOf, eraseOf, commandOf, byteAddress, landsFrom, lands, programmed, obey, execute, settles, AfterCut}
+use Rattle.power_cut.specs.Flash.{flash, programOf, eraseOf, commandOf, byteAddress, landsFrom, lands, programmed, programming as works-on, obey, execute, settles, AfterCut}
 use Rattle.power_cut.specs.Controller.{registerAt, bytesOut, isStatusRead, Device, device, flashOf, out, idle, configured, afterWrite, afterRead, effect, GivenBy, Gives, AllOut, Trace, still, quiet, step, rests}
 use Rattle.power_cut.specs.Observer.{raised, configWritten, isClean, closing, enableWritten, seenWrite, seenRead, see, sees, observed}
-use Rattle.power_cut.specs.Statement.{total, Kept}
+use Rattle.power_cut.specs.Statement.{total, NextOnly, Kept}
 use Rattle.power_cut.proofs.Theorem.{PowerCutOf}
 use Rattle.power_cut.proofs.Examples.{line, line-chunk, blank, unread, told, none-left, still-low}
 
@@ -170,6 +170,103 @@ unchecked-kept k =
 pub no-page-check : PowerCutOf 0x0000FC eight unchecked → ⊥
 unfolding runs
 no-page-check p = unchecked-kept (p .cut 44 (omega arith) at-rest wrapped blank (programmed crossing blank) (rests refl refl refl refl) unchecked-trace unchecked-cut)
+
+-- ---- two programs without a status between them: the flash is busy with the first and ignores the second, and the log shows two chunks in doubt
+
+abbrev next-line : Chunk
+next-line = record { address = 0x000104; bytes = line }
+
+-- up to the second rising chip select
+abbrev unwaiting : Result
+unwaiting = called (exchange enabling (λ rs. exchange (programming 0x000100 line) (λ rs. exchange enabling (λ rs. exchange (programming 0x000104 line) (λ rs. settling 6 ProgrammingErrorBitSet (counts 8 (ends Done []))))))) 53
+    (0x00 ∷ 0x8008C4C1 ∷ 0x8008C0C1 ∷ 0x10 ∷ 0x00 ∷ 0x8008C0C1 ∷ 0x00 ∷ 0x8008C4C1 ∷
+    0x8008C0C1 ∷ 0x10 ∷ 0x10 ∷ 0x00 ∷ 0x8008C0C1 ∷ 0x10 ∷ 0x00 ∷ 0x00 ∷
+    0x8008C4C1 ∷ 0x8008C0C1 ∷ 0x10 ∷ 0x00 ∷ 0x8008C0C1 ∷ 0x00 ∷ 0x8008C4C1 ∷ 0x8008C0C1 ∷
+    0x10 ∷ 0x10 ∷ 0x00 ∷ 0x8008C0C1 ∷ [])
+
+abbrev at-work : Device
+at-work = device 0x8008C4C1 [] [] [] (0x00 ∷ []) (flash blank false (some (works-on line-chunk)))
+
+unwaiting-trace : Trace AllOut at-rest (unwaiting .log) at-work
+unfolding runs effect afterRead afterWrite configured registerAt bytesOut execute obey commandOf programOf eraseOf Gives GivenBy AllOut isStatusRead
+unwaiting-trace =
+    (step {a = access.Read 0x04 0x00} refl tt
+    (step {a = access.Read 0x00 0x8008C4C1} refl tt
+    (step {a = access.Write 0x00 0x8008C0C1} tt none-left
+    (step {a = access.Write 0x14 0x01} tt tt
+    (step {a = access.Write 0x80 0x06} tt tt
+    (step {a = access.Read 0x00 0x8008C0C1} refl tt
+    (step {a = access.Write 0x00 0x8009C0C1} tt still-low
+    (quiet (out 0x00 (unread refl))
+    (step {a = access.Read 0x04 0x10} refl tt
+    (step {a = access.Read 0x20 0x00} refl tt
+    (step {a = access.Read 0x00 0x8008C0C1} refl tt
+    (step {a = access.Write 0x00 0x8008C4C1} tt none-left
+    (step {a = access.Write 0x14 0x00} tt tt
+    (step {a = access.Read 0x04 0x00} refl tt
+    (step {a = access.Read 0x00 0x8008C4C1} refl tt
+    (step {a = access.Write 0x00 0x8008C0C1} tt none-left
+    (step {a = access.Write 0x14 0x01} tt tt
+    (step {a = access.Write 0x1C 0x00010002} tt tt
+    (step {a = access.Write 0x1C 0xEFBEADDE} tt tt
+    (step {a = access.Read 0x00 0x8008C0C1} refl tt
+    (step {a = access.Write 0x00 0x8009C0C1} tt still-low
+    (quiet (out 0x00 (unread refl))
+    (quiet (out 0x00 (unread refl))
+    (step {a = access.Read 0x04 0x10} refl tt
+    (step {a = access.Read 0x04 0x10} refl tt
+    (step {a = access.Read 0x20 0x00} refl tt
+    (step {a = access.Read 0x00 0x8008C0C1} refl tt
+    (step {a = access.Write 0x00 0x8008C4C1} tt none-left
+    (step {a = access.Write 0x14 0x00} tt tt
+    (step {a = access.Read 0x04 0x10} refl tt
+    (step {a = access.Read 0x20 0x00} refl tt
+    (step {a = access.Read 0x04 0x00} refl tt
+    (step {a = access.Read 0x00 0x8008C4C1} refl tt
+    (step {a = access.Write 0x00 0x8008C0C1} tt none-left
+    (step {a = access.Write 0x14 0x01} tt tt
+    (step {a = access.Write 0x80 0x06} tt tt
+    (step {a = access.Read 0x00 0x8008C0C1} refl tt
+    (step {a = access.Write 0x00 0x8009C0C1} tt still-low
+    (quiet (out 0x00 (unread refl))
+    (step {a = access.Read 0x04 0x10} refl tt
+    (step {a = access.Read 0x20 0x00} refl tt
+    (step {a = access.Read 0x00 0x8008C0C1} refl tt
+    (step {a = access.Write 0x00 0x8008C4C1} tt none-left
+    (step {a = access.Write 0x14 0x00} tt tt
+    (step {a = access.Read 0x04 0x00} refl tt
+    (step {a = access.Read 0x00 0x8008C4C1} refl tt
+    (step {a = access.Write 0x00 0x8008C0C1} tt none-left
+    (step {a = access.Write 0x14 0x01} tt tt
+    (step {a = access.Write 0x1C 0x04010002} tt tt
+    (step {a = access.Write 0x1C 0xEFBEADDE} tt tt
+    (step {a = access.Read 0x00 0x8008C0C1} refl tt
+    (step {a = access.Write 0x00 0x8009C0C1} tt still-low
+    (quiet (out 0x00 (unread refl))
+    (quiet (out 0x00 (unread refl))
+    (step {a = access.Read 0x04 0x10} refl tt
+    (step {a = access.Read 0x04 0x10} refl tt
+    (step {a = access.Read 0x20 0x00} refl tt
+    (step {a = access.Read 0x00 0x8008C0C1} refl tt
+    (step {a = access.Write 0x00 0x8008C4C1} tt none-left still)))))))))))))))))))))))))))))))))))))))))))))))))))))))))))
+
+unwaiting-cut : AfterCut (flashOf at-work) blank
+unfolding AfterCut
+unwaiting-cut x h = refl
+
+unwaiting-shown : observed (unwaiting .log) .doubt ≡ line-chunk ∷ next-line ∷ []
+unfolding runs observed sees see seenRead seenWrite configWritten enableWritten closing isClean isStatusRead raised registerAt bytesOut commandOf programOf eraseOf
+unwaiting-shown = refl
+
+not-two : {b c : Chunk} {q l : List Chunk} → NextOnly (b ∷ c ∷ q) l → ⊥
+not-two = elim [ ]
+
+unwaiting-kept : Kept 0x000100 (line ++ line) blank (observed (unwaiting .log)) blank → ⊥
+unwaiting-kept k = not-two (rw unwaiting-shown at (k .next))
+
+pub no-status-between : PowerCutOf 0x000100 (line ++ line) unwaiting → ⊥
+unfolding runs
+no-status-between p = unwaiting-kept (p .cut 53 (omega arith) at-rest at-work blank blank (rests refl refl refl refl) unwaiting-trace unwaiting-cut)
 
 -- ---- a busy status taken for done, and bytes counted once they are sent: the count is not that of the chunks finished in the log
 

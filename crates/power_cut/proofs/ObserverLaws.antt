@@ -1,0 +1,106 @@
+-- The definition of the observer read back: when a chunk comes into doubt, when those in doubt are finished, and that a status that nobody read
+-- finishes nothing. Assumes nothing.
+use Prim.Native.Nat.{ℕ, suc, _/_, _%_, _^_}
+use mathlib.Core.Path.{_≡_, refl, ap, _∙_}
+use mathlib.Core.Bool.{Bool, true, false, not, _&&_}
+use mathlib.Core.List.{List, [], _∷_, _++_}
+use native.Mathlib.Omega.{arith}
+use borrow.Author.Tests.{eq-eqb, ne-eqb}
+use Rattle.zynq7000.specs.Bits.{isSet}
+use Rattle.zynq7000.specs.declared.qspi.Access.{Access}
+use Rattle.zynq7000.specs.declared.qspi.Access.the-variants.{Read, Write}
+use Rattle.zedboard_bsp.specs.Words.{topByte}
+use Rattle.qspi_calls.specs.Chunks.{Chunk}
+use Rattle.power_cut.specs.Flash.{pageProgram, commandOf, programOf, eraseOf}
+use Rattle.power_cut.specs.Controller.{registerAt, bytesOut, high, isStatusRead}
+use Rattle.power_cut.specs.Observer.{Transfer, closed, opened, unread, Observed, raised, configWritten, isClean, closing, enableWritten, seenWrite, seenRead, see, sees, observed}
+
+-- ---- "error bit and bit 0 clear"
+
+module _ (b : ℕ) (bs : List ℕ) (v : ℕ) where
+  -- bits 0 and 6 of the top byte
+  pub clean-status : v / 2 ^ 24 % 2 ≡ 0 → v / 2 ^ 30 % 2 ≡ 0 → isClean (opened (0x05 ∷ b ∷ bs) v) ≡ true
+  unfolding isClean isStatusRead
+  clean-status z s =
+      let e : isSet 0 (topByte v) ≡ false = ne-eqb (v / 2 ^ 24 % 256 / 2 ^ 0 % 2) 1 (λ i. omega (arith, z, i)) in
+      let f : isSet 6 (topByte v) ≡ false = ne-eqb (v / 2 ^ 24 % 256 / 2 ^ 6 % 2) 1 (λ i. omega (arith, s, i)) in
+      rw (e, f)
+
+  pub busy-status : v / 2 ^ 24 % 2 ≡ 1 → isClean (opened (0x05 ∷ b ∷ bs) v) ≡ false
+  unfolding isClean isStatusRead
+  busy-status z =
+      let e : isSet 0 (topByte v) ≡ true = eq-eqb (v / 2 ^ 24 % 256 / 2 ^ 0 % 2) 1 (omega (arith, z)) in
+      rw e (and-false (not (isSet 6 (topByte v))))
+    where
+      and-false : (x : Bool) → (x && false) ≡ false
+      and-false true = refl
+      and-false false = refl
+
+  pub error-status : v / 2 ^ 30 % 2 ≡ 1 → isClean (opened (0x05 ∷ b ∷ bs) v) ≡ false
+  unfolding isClean isStatusRead
+  error-status z =
+      let e : isSet 6 (topByte v) ≡ true = eq-eqb (v / 2 ^ 24 % 256 / 2 ^ 6 % 2) 1 (omega (arith, z)) in
+      rw e
+
+-- ---- a status that nobody read
+
+-- whatever was sent
+pub unread-unclean : (sent : List ℕ) → isClean (opened sent unread) ≡ false
+unfolding isClean isStatusRead
+unread-unclean [] = refl
+unread-unclean (b ∷ []) = refl
+unread-unclean (b ∷ c ∷ bs) = go (isStatusRead (b ∷ c ∷ bs))
+  where
+    go : (x : Bool) → (x && false) ≡ false
+    go true = refl
+    go false = refl
+
+-- a status transfer without a reply leaves the chunks in doubt and the finished ones as they were
+pub nobody-read : (o : Observed) (v : ℕ) → see (see (see o (Write 0x14 1)) (Write 0x84 v)) (Write 0x14 0) ≡ record { transfer = closed; up = o .up; doubt = o .doubt; finished = o .finished }
+unfolding see seenWrite enableWritten closing registerAt bytesOut
+nobody-read o v = rw (unread-unclean (v % 256 ∷ v / 2 ^ 8 % 256 ∷ []))
+
+-- such a log, from its beginning: a program, and a status that was never read
+pub never-read : (observed (Write 0x14 1 ∷ Write 0x1C 0x00010002 ∷ Write 0x1C 0xEFBEADDE ∷ Write 0x14 0 ∷ Write 0x14 1 ∷ Write 0x84 0x05 ∷ Write 0x14 0 ∷ []) .finished ≡ [])
+unfolding observed sees see seenWrite seenRead configWritten enableWritten closing isClean isStatusRead raised registerAt bytesOut commandOf programOf eraseOf
+never-read = refl
+
+-- ---- a transfer closes
+
+module _ (t : Transfer) (h : Bool) (q k : List Chunk) where
+  abbrev shows : Observed
+  shows = record { transfer = t; up = h; doubt = q; finished = k }
+
+  -- "the closing of the last status transfer included": what was in doubt is finished
+  pub clean-finishes : isClean t ≡ true → see shows (Write 0x14 0) ≡ record { transfer = closed; up = h; doubt = []; finished = k ++ q }
+  unfolding see seenWrite enableWritten closing registerAt
+  clean-finishes e = rw e
+
+  pub unclean-keeps : isClean t ≡ false → see shows (Write 0x14 0) ≡ record { transfer = closed; up = h; doubt = q; finished = k }
+  unfolding see seenWrite enableWritten closing registerAt
+  unclean-keeps e = rw e
+
+  pub opens-unread : (v : ℕ) → see shows (Write 0x14 (suc v)) ≡ record { transfer = opened [] unread; up = h; doubt = q; finished = k }
+  unfolding see seenWrite enableWritten registerAt
+  opens-unread v = refl
+
+-- ---- chip select: "in doubt from the rising chip select of its page program command"
+
+module _ (sent : List ℕ) (reply v : ℕ) (q k : List Chunk) where
+  -- it joins those that are in doubt already
+  pub rise-doubts : (c : Chunk) → isSet 10 v ≡ true → commandOf sent ≡ pageProgram c
+      → see (record { transfer = opened sent reply; up = false; doubt = q; finished = k }) (Write 0x00 v) ≡ record { transfer = opened sent reply; up = true; doubt = q ++ c ∷ []; finished = k }
+  unfolding see seenWrite configWritten raised registerAt
+  rise-doubts c e n = rw (e, n)
+
+  -- before it rises nothing is
+  pub low-keeps : (h : Bool) → isSet 10 v ≡ false
+      → see (record { transfer = opened sent reply; up = h; doubt = q; finished = k }) (Write 0x00 v) ≡ record { transfer = opened sent reply; up = false; doubt = q; finished = k }
+  unfolding see seenWrite configWritten raised registerAt
+  low-keeps true e = rw e
+  low-keeps false e = rw e
+
+  pub high-keeps : isSet 10 v ≡ true
+      → see (record { transfer = opened sent reply; up = true; doubt = q; finished = k }) (Write 0x00 v) ≡ record { transfer = opened sent reply; up = true; doubt = q; finished = k }
+  unfolding see seenWrite configWritten raised registerAt
+  high-keeps e = rw e
