@@ -3,7 +3,7 @@
 // Replies and stored output are made by `tools/cut_cases`, a simulated flash with an observer of its own.
 ghost use Prim.Native.Nat.{_≤_};
 use libc::STDOUT_FILENO;
-use log_observer::Spot;
+use log_observer::Doubt;
 use log_observer::Watch;
 use power_cut::PagesRan;
 
@@ -95,10 +95,10 @@ fn cut(k: usize, address: u32, data: &[u8], replies: &[u32], log: &mut [u32]) {
 fn shown(watch: Watch) {
     decimal(b" finished ", watch.finished as usize);
     decimal(b" bytes ", watch.bytes as usize);
-    spot(watch.doubt);
+    in_doubt(watch.doubt);
 }
 
-fn spot(doubt: Spot) {
+fn in_doubt(doubt: Doubt) {
     if doubt.there {
         hex(b" doubt ", doubt.address, 6);
         hex(b" ", doubt.length, 2);

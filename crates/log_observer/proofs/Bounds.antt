@@ -1,14 +1,11 @@
--- What is seen of so many accesses is no more than they can send: four bytes each, and one chunk each. Assumes nothing.
+-- The transfer at hand after so many accesses has no more bytes than they can send: four each. Assumes nothing.
 use Prim.Native.Nat.{ℕ, _+_, _*_, _≤_}
 use mathlib.Core.Path.{_≡_}
-use mathlib.Core.Option.{Option, none, some}
 use mathlib.Core.List.{List, [], _∷_, _++_}
 use lib.ListN.{length, length-append}
 use native.Mathlib.Omega.{arith}
-use Rattle.qspi_calls.specs.Chunks.{Chunk}
 use Rattle.qspi_calls.proofs.WireOrder.{AllBytes}
 use Rattle.power_cut.specs.Observer.{Transfer, closed, opened, Observed}
-use Rattle.power_cut.specs.Statement.{total}
 
 pub octets-append : (a b : List ℕ) → AllBytes a → AllBytes b → AllBytes (a ++ b)
 octets-append [] b p q = q
@@ -22,15 +19,10 @@ abbrev pub sentIn : Transfer → ℕ
 sentIn closed = 0
 sentIn (opened sent reply) = length sent
 
-abbrev pub bytesIn : Option Chunk → ℕ
-bytesIn none = 0
-bytesIn (some c) = length (c .bytes)
-
 -- after k accesses
 pub record Within (k : ℕ) (o : Observed) : Type 0 where
-  pub octets : OctetsIn (o .sofar .transfer)
-  pub few : length (o .sofar .finished) ≤ k
-  pub small : sentIn (o .sofar .transfer) + bytesIn (o .sofar .programs) + total (o .sofar .finished) ≤ 4 * k
+  pub octets : OctetsIn (o .transfer)
+  pub small : sentIn (o .transfer) ≤ 4 * k
 
 pub length-snoc : {A : Type 0} (l : List A) (x : A) → length (l ++ x ∷ []) ≡ length l + 1
 length-snoc l x = length-append l (x ∷ [])

@@ -1,9 +1,8 @@
 -- What a transfer is, told by its number of bytes and its first four, is what its bytes say. Assumes nothing.
-use Prim.Native.Nat.{ℕ, _+_, _-_, _%_, _<_, _≤_}
+use Prim.Native.Nat.{ℕ, _+_, _-_, _%_, _^_, _<_}
 use mathlib.Core.Path.{_≡_, refl, sym, ap, _∙_}
 use mathlib.Core.Bool.{Bool, true, false, not, cond, _&&_}
-use mathlib.Core.Option.{Option, some}
-use mathlib.Core.List.{List, [], _∷_}
+use mathlib.Core.List.{List, [], _∷_, _++_}
 use lib.Dec.{eqb}
 use lib.ListN.{length, take, getD}
 use native.Mathlib.Omega.{arith}
@@ -16,14 +15,16 @@ use Rattle.power_cut.specs.Flash.{commandOf, programOf, eraseOf, addressOf}
 use Rattle.power_cut.specs.Controller as controller
 use Rattle.power_cut.specs.Observer.{Transfer, closed, opened, named}
 use Rattle.power_cut.specs.Observer as observer
-use Rattle.log_observer.specs.Watching.{isStatusRead, isClean, addressIn, commanded, raised}
-use Rattle.log_observer.specs.Shown.{spotOf, transferOf}
+use Rattle.log_observer.specs.Watching.{isStatusRead, isClean, addressIn, joined, commanded, raised}
+use Rattle.log_observer.specs.Shown.{doubtOf, transferOf}
+use Rattle.power_cut.specs.Statement.{total}
+use Rattle.power_cut.proofs.Driver.{total-snoc}
 use Rattle.qspi_calls.proofs.WireOrder.{AllBytes}
-use Rattle.log_observer.proofs.Bounds.{OctetsIn, sentIn, bytesIn}
+use Rattle.log_observer.proofs.Bounds.{OctetsIn, length-snoc}
 
 -- ---- page program
 
-named-erase : (bs : List ℕ) (q : Option Chunk) → named (eraseOf bs) q ≡ q
+named-erase : (bs : List ℕ) (q : List Chunk) → named (eraseOf bs) q ≡ q
 unfolding eraseOf
 named-erase [] q = refl
 named-erase (a ∷ []) q = refl
@@ -31,7 +32,7 @@ named-erase (a ∷ b ∷ []) q = refl
 named-erase (a ∷ b ∷ c ∷ bs) q = refl
 
 -- of the commands only 02 names a chunk
-named-first : (b : ℕ) (bs : List ℕ) (q : Option Chunk) → named (commandOf (b ∷ bs)) q ≡ cond (eqb b 0x02) (named (programOf bs) q) q
+named-first : (b : ℕ) (bs : List ℕ) (q : List Chunk) → named (commandOf (b ∷ bs)) q ≡ cond (eqb b 0x02) (named (programOf bs) q) q
 unfolding commandOf
 named-first b bs q = six (eqb b 0x06) refl
   where
@@ -69,8 +70,8 @@ either true x = refl
 either false x = refl
 
 -- no chunk is named where the bytes end before the data
-none-named : (b : ℕ) (bs : List ℕ) (q : Option Chunk) → named (programOf bs) q ≡ q → named (commandOf (b ∷ bs)) q ≡ q
-none-named b bs q e = named-first b bs q ∙ (ap (λ (p : Option Chunk). cond (eqb b 0x02) p q) e ∙ either (eqb b 0x02) q)
+none-named : (b : ℕ) (bs : List ℕ) (q : List Chunk) → named (programOf bs) q ≡ q → named (commandOf (b ∷ bs)) q ≡ q
+none-named b bs q e = named-first b bs q ∙ (ap (λ (p : List Chunk). cond (eqb b 0x02) p q) e ∙ either (eqb b 0x02) q)
 
 low-byte : (a b c d : ℕ) → a < 256 → wordOf (a ∷ b ∷ c ∷ d ∷ []) % 256 ≡ a
 low-byte a b c d ha = omega arith
@@ -78,43 +79,37 @@ low-byte a b c d ha = omega arith
 address-read : (a b c d : ℕ) → a < 256 → b < 256 → c < 256 → d < 256 → addressIn (wordOf (a ∷ b ∷ c ∷ d ∷ [])) ≡ addressOf b c d
 address-read a b c d ha hb hc hd = ap (λ (l : List ℕ). addressOf (getD l 1 0) (getD l 2 0) (getD l 3 0)) (read-back a b c d ha hb hc hd)
 
-chosen : (t : Bool) (c : Chunk) (q : Option Chunk) → cond t (spotOf (some c)) (spotOf q) ≡ spotOf (cond t (some c) q)
-chosen true c q = refl
+-- one more in doubt
+joined-shown : (q : List Chunk) (c : Chunk) → joined (doubtOf q) (c .address) (length (c .bytes)) ≡ doubtOf (q ++ c ∷ [])
+unfolding total
+joined-shown [] c =
+    let b : (0 + length (c .bytes)) % 2 ^ 32 ≡ total (c ∷ []) % 2 ^ 32 = omega arith in
+    rw b
+joined-shown (d ∷ q) c =
+    let n : (length (d ∷ q) % 2 ^ 32 + 1) % 2 ^ 32 ≡ length (d ∷ (q ++ c ∷ [])) % 2 ^ 32 = omega (arith, length-snoc q c) in
+    let b : (total (d ∷ q) % 2 ^ 32 + length (c .bytes)) % 2 ^ 32 ≡ total (d ∷ (q ++ c ∷ [])) % 2 ^ 32 = omega (arith, total-snoc q c) in
+    simp (n, b)
+
+chosen : (t : Bool) (c : Chunk) (q : List Chunk) → cond t (joined (doubtOf q) (c .address) (length (c .bytes))) (doubtOf q) ≡ doubtOf (cond t (q ++ c ∷ []) q)
+chosen true c q = joined-shown q c
 chosen false c q = refl
 
-pub commanded-shown : (t : Transfer) (q : Option Chunk) → OctetsIn t → commanded (transferOf t) (spotOf q) ≡ spotOf (observer.commanded t q)
+pub commanded-shown : (t : Transfer) (q : List Chunk) → OctetsIn t → commanded (transferOf t) (doubtOf q) ≡ doubtOf (observer.commanded t q)
 unfolding commandOf programOf
 commanded-shown closed q o = refl
 commanded-shown (opened [] reply) q o = refl
-commanded-shown (opened (a ∷ []) reply) q o = ap spotOf (sym (none-named a [] q refl))
-commanded-shown (opened (a ∷ b ∷ []) reply) q o = ap spotOf (sym (none-named a (b ∷ []) q refl))
-commanded-shown (opened (a ∷ b ∷ c ∷ []) reply) q o = ap spotOf (sym (none-named a (b ∷ c ∷ []) q refl))
-commanded-shown (opened (a ∷ b ∷ c ∷ d ∷ []) reply) q o = ap spotOf (sym (none-named a (b ∷ c ∷ d ∷ []) q refl))
+commanded-shown (opened (a ∷ []) reply) q o = ap doubtOf (sym (none-named a [] q refl))
+commanded-shown (opened (a ∷ b ∷ []) reply) q o = ap doubtOf (sym (none-named a (b ∷ []) q refl))
+commanded-shown (opened (a ∷ b ∷ c ∷ []) reply) q o = ap doubtOf (sym (none-named a (b ∷ c ∷ []) q refl))
+commanded-shown (opened (a ∷ b ∷ c ∷ d ∷ []) reply) q o = ap doubtOf (sym (none-named a (b ∷ c ∷ d ∷ []) q refl))
 commanded-shown (opened (a ∷ b ∷ c ∷ d ∷ e ∷ bs) reply) q o =
     let chunk : Chunk = record { address = addressOf b c d; bytes = e ∷ bs } in
     let behind : length (a ∷ b ∷ c ∷ d ∷ e ∷ bs) - 4 ≡ length (e ∷ bs) = omega arith in
     simp (behind, lt-ltb 4 (length (a ∷ b ∷ c ∷ d ∷ e ∷ bs)) (omega arith), low-byte a b c d (o .0), address-read a b c d (o .0) (o .1 .0) (o .1 .1 .0) (o .1 .1 .1 .0))
-    (chosen (eqb a 0x02) chunk q ∙ ap spotOf (sym (named-first a (b ∷ c ∷ d ∷ e ∷ bs) q)))
+    (chosen (eqb a 0x02) chunk q ∙ ap doubtOf (sym (named-first a (b ∷ c ∷ d ∷ e ∷ bs) q)))
 
--- the chunk that a command names has no more bytes than were sent
-picked-most : (t : Bool) (c : Chunk) (q : Option Chunk) → bytesIn (cond t (some c) q) ≤ length (c .bytes) + bytesIn q
-picked-most true c q = omega arith
-picked-most false c q = omega arith
-
-pub commanded-most : (t : Transfer) (q : Option Chunk) → bytesIn (observer.commanded t q) ≤ sentIn t + bytesIn q
-unfolding commandOf programOf
-commanded-most closed q = omega arith
-commanded-most (opened [] reply) q = omega arith
-commanded-most (opened (a ∷ []) reply) q = rw (none-named a [] q refl) (omega arith)
-commanded-most (opened (a ∷ b ∷ []) reply) q = rw (none-named a (b ∷ []) q refl) (omega arith)
-commanded-most (opened (a ∷ b ∷ c ∷ []) reply) q = rw (none-named a (b ∷ c ∷ []) q refl) (omega arith)
-commanded-most (opened (a ∷ b ∷ c ∷ d ∷ []) reply) q = rw (none-named a (b ∷ c ∷ d ∷ []) q refl) (omega arith)
-commanded-most (opened (a ∷ b ∷ c ∷ d ∷ e ∷ bs) reply) q =
-    let chunk : Chunk = record { address = addressOf b c d; bytes = e ∷ bs } in
-    rw (named-first a (b ∷ c ∷ d ∷ e ∷ bs) q) (omega (arith, picked-most (eqb a 0x02) chunk q))
-
-pub raised-shown : (was is : Bool) (t : Transfer) (q : Option Chunk) → OctetsIn t
-    → raised was is (transferOf t) (spotOf q) ≡ spotOf (observer.raised was is t q)
+pub raised-shown : (was is : Bool) (t : Transfer) (q : List Chunk) → OctetsIn t
+    → raised was is (transferOf t) (doubtOf q) ≡ doubtOf (observer.raised was is t q)
 unfolding observer.raised
 raised-shown true is t q o = refl
 raised-shown false false t q o = refl

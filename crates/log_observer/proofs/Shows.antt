@@ -1,12 +1,11 @@
--- The watch by numbers shows what the lists say, of every log with fewer than 2^30 accesses: so many send fewer than 2^32 bytes. Assumes
--- nothing.
+-- The watch by numbers shows what the lists say, of every log with fewer than 2^30 accesses: so many send fewer than 2^32 bytes in a transfer.
+-- Assumes nothing.
 use Prim.Native.Nat.{ℕ, zero, suc, _+_, _-_, _%_, _^_, _<_, _≤_}
 use mathlib.Core.Path.{_≡_, refl, sym, ap, _∙_}
 use mathlib.Core.Bool.{Bool, true, false}
-use mathlib.Core.Option.{Option, none, some}
 use mathlib.Core.List.{List, [], _∷_, _++_, append-assoc}
 use lib.Dec.{eqb}
-use lib.ListN.{length, getD, take, drop, length-take}
+use lib.ListN.{length, getD, take, drop, length-append, length-take}
 use native.Mathlib.Omega.{arith}
 use borrow.Author.Tests.{eqb-true, ne-eqb}
 use Rattle.zynq7000.specs.Access.{firstWord, valueWord, encode, Loggable}
@@ -18,18 +17,17 @@ use Rattle.access_log.specs.Log.{entryAt}
 use Rattle.access_log.proofs.RoundTrip.{reads-back}
 use Rattle.qspi_calls.specs.Chunks.{Chunk}
 use Rattle.power_cut.specs.Controller.{registerAt, bytesOut}
-use Rattle.power_cut.specs.Observer.{Transfer, closed, opened, Observed, sends, takes, also, closing, enableWritten, seenWrite, seenRead, seen, doubtEnable, doubtAfter, see, sees, observed}
+use Rattle.power_cut.specs.Observer.{Transfer, closed, opened, Observed, sends, takes, withTransfer, configWritten, closing, enableWritten, seenWrite, seenRead, see, sees, observed}
 use Rattle.power_cut.specs.Observer as observer
 use Rattle.power_cut.specs.Statement.{total}
 use Rattle.log_observer.specs.declared.Transfer as declared
 use Rattle.log_observer.specs.declared.Watch.{Watch}
-use Rattle.log_observer.specs.Watching.{counted, withTransfer, takeReply, isClean, wrote, hasRead, watched, watchFrom, watchOf}
+use Rattle.log_observer.specs.Watching.{takeReply, wrote, hasRead, watched, watchFrom, watchOf}
 use Rattle.log_observer.specs.Watching as watching
-use Rattle.log_observer.specs.Shown.{spotOf, transferOf, shown}
-use Rattle.power_cut.proofs.Driver.{total-snoc}
-use Rattle.log_observer.proofs.Bounds.{OctetsIn, sentIn, bytesIn, Within, length-snoc}
+use Rattle.log_observer.specs.Shown.{doubtOf, transferOf, shown}
+use Rattle.log_observer.proofs.Bounds.{OctetsIn, sentIn, Within}
 use Rattle.log_observer.proofs.Sending.{one-sent, two-sent, three-sent, four-sent, sends-octets, sends-most}
-use Rattle.log_observer.proofs.Commands.{commanded-shown, commanded-most, raised-shown, clean-shown}
+use Rattle.log_observer.proofs.Commands.{raised-shown, clean-shown}
 use Rattle.log_observer.proofs.Following.{from-access, from-none}
 
 -- ---- the register of an offset
@@ -86,42 +84,43 @@ register-at o = by-config (eqb o 0x00) refl
     by-config true e = is-at o 0x00 e at-config
     by-config false e = by-status (eqb o 0x04) refl e
 
--- the same with another transfer at hand
-abbrev replaced : Observed → Transfer → Observed
-replaced o u = record { sofar = record { transfer = u; programs = o .sofar .programs; finished = o .sofar .finished }; up = o .up; doubt = o .doubt }
-
 -- ---- a transfer closes
 
-counted-shown : (k : List Chunk) (q : Option Chunk) → length k + 1 < 2 ^ 32 → counted (length k) (spotOf q .there) ≡ length (also k q)
-counted-shown k none h = refl
-counted-shown k (some c) h = omega (arith, length-snoc k c)
+total-append : (k q : List Chunk) → total (k ++ q) ≡ total k + total q
+unfolding total
+total-append [] q = omega arith
+total-append (c ∷ k) q = omega (arith, total-append k q)
 
-bytes-shown : (k : List Chunk) (q : Option Chunk) → bytesIn q + total k < 2 ^ 32 → (total k + spotOf q .length) % 2 ^ 32 ≡ total (also k q)
-bytes-shown k none h = omega arith
-bytes-shown k (some c) h = omega (arith, total-snoc k c)
+chunks-shown : (k q : List Chunk) → (length k % 2 ^ 32 + doubtOf q .chunks) % 2 ^ 32 ≡ length (k ++ q) % 2 ^ 32
+chunks-shown k [] = omega (arith, length-append k [])
+chunks-shown k (c ∷ q) = omega (arith, length-append k (c ∷ q))
+
+bytes-shown : (k q : List Chunk) → (total k % 2 ^ 32 + doubtOf q .bytes) % 2 ^ 32 ≡ total (k ++ q) % 2 ^ 32
+unfolding total
+bytes-shown k [] = omega (arith, total-append k [])
+bytes-shown k (c ∷ q) = omega (arith, total-append k (c ∷ q))
 
 module _ (k : ℕ) (o : Observed) (m : Within k o) (few : k < 2 ^ 30 - 1) where
   abbrev t : Transfer
-  t = o .sofar .transfer
+  t = o .transfer
 
   closed-shown : watching.closed (shown o) ≡ shown (see o (access.Write 0x14 0))
-  unfolding see seen seenWrite enableWritten closing doubtAfter doubtEnable registerAt
+  unfolding see seenWrite enableWritten closing registerAt
   closed-shown = go (observer.isClean t) refl
     where
       go : (b : Bool) → observer.isClean t ≡ b → watching.closed (shown o) ≡ shown (see o (access.Write 0x14 0))
-      go true e =
-          simp (clean-shown t (m .octets), e, counted-shown (o .sofar .finished) (o .sofar .programs) (omega (arith, m .few)), bytes-shown (o .sofar .finished) (o .sofar .programs) (omega (arith, m .small)))
-      go false e = simp (clean-shown t (m .octets), e, commanded-shown t (o .sofar .programs) (m .octets))
+      go true e = simp (clean-shown t (m .octets), e, chunks-shown (o .finished) (o .doubt), bytes-shown (o .finished) (o .doubt))
+      go false e = simp (clean-shown t (m .octets), e)
 
   opened-shown : (v : ℕ) → watching.enabled (shown o) (suc v) ≡ shown (see o (access.Write 0x14 (suc v)))
-  unfolding see seen seenWrite enableWritten doubtAfter doubtEnable registerAt
+  unfolding see seenWrite enableWritten registerAt
   opened-shown v = simp (ne-eqb (suc v) 0 (λ e. omega arith))
 
   configured-shown : (v : ℕ) → watching.configured (shown o) v ≡ shown (see o (access.Write 0x00 v))
-  unfolding see seen seenWrite doubtAfter registerAt
+  unfolding see seenWrite configWritten registerAt
   configured-shown v = simp (raised-shown (o .up) (isSet 10 v) t (o .doubt) (m .octets))
 
-  transfer-shown : (u : Transfer) (x : declared.Transfer) → x ≡ transferOf u → withTransfer (shown o) x ≡ shown (replaced o u)
+  transfer-shown : (u : Transfer) (x : declared.Transfer) → x ≡ transferOf u → watching.withTransfer (shown o) x ≡ shown (withTransfer u o)
   transfer-shown u x e = rw e
 
   room : sentIn t + 4 < 2 ^ 32
@@ -132,7 +131,7 @@ module _ (k : ℕ) (o : Observed) (m : Within k o) (few : k < 2 ^ 30 - 1) where
   takes-shown (opened sent reply) v = refl
 
   write-shown : {off : ℕ} → At off → (v : ℕ) → wrote (shown o) off v ≡ shown (see o (access.Write off v))
-  unfolding see seen seenWrite doubtAfter registerAt
+  unfolding see seenWrite registerAt
   write-shown at-config v = configured-shown v
   write-shown at-status v = refl
   write-shown at-enable zero = closed-shown
@@ -145,7 +144,7 @@ module _ (k : ℕ) (o : Observed) (m : Within k o) (few : k < 2 ^ 30 - 1) where
   write-shown (at-other a b c d f g h i) v = simp (a, b, c, d, f, g, h, i)
 
   read-shown : {off : ℕ} → At off → (v : ℕ) → hasRead (shown o) off v ≡ shown (see o (access.Read off v))
-  unfolding see seen seenRead registerAt
+  unfolding see seenRead registerAt
   read-shown at-config v = refl
   read-shown at-status v = refl
   read-shown at-enable v = refl
@@ -163,26 +162,17 @@ module _ (k : ℕ) (o : Observed) (m : Within k o) (few : k < 2 ^ 30 - 1) where
 
 -- ---- one access sends no more than four bytes
 
-also-few : (l : List Chunk) (q : Option Chunk) → length (also l q) ≤ length l + 1
-also-few l none = omega arith
-also-few l (some c) = omega (arith, length-snoc l c)
-
-also-total : (l : List Chunk) (q : Option Chunk) → total (also l q) ≡ bytesIn q + total l
-also-total l none = omega arith
-also-total l (some c) = omega (arith, total-snoc l c)
-
 module _ (k : ℕ) (o : Observed) (m : Within k o) where
-  -- nothing sent, nothing finished
-  same-within : (h : Bool) (d : Option Chunk) → Within (suc k) (record { sofar = o .sofar; up = h; doubt = d })
-  same-within h d = record { octets = m .octets; few = omega (arith, m .few); small = omega (arith, m .small) }
+  -- the transfer at hand goes on, or another begins
+  transfer-within : (u : Transfer) (h : Bool) (q f : List Chunk) → OctetsIn u → sentIn u ≤ sentIn (o .transfer) + 4 → Within (suc k) (record { transfer = u; up = h; doubt = q; finished = f })
+  transfer-within u h q f p i = record { octets = p; small = omega (arith, m .small) }
 
-  -- the transfer at hand goes on or another begins
-  transfer-within : (u : Transfer) → OctetsIn u → sentIn u ≤ sentIn (o .sofar .transfer) + 4 → Within (suc k) (replaced o u)
-  transfer-within u p h = record { octets = p; few = omega (arith, m .few); small = omega (arith, m .small) }
+  -- nothing is sent
+  same-within : (h : Bool) (q f : List Chunk) → Within (suc k) (record { transfer = o .transfer; up = h; doubt = q; finished = f })
+  same-within h q f = transfer-within (o .transfer) h q f (m .octets) (omega arith)
 
-  sends-within : (n v : ℕ) → Within (suc k) (replaced o (sends (bytesOut n v) (o .sofar .transfer)))
-  sends-within n v =
-      transfer-within (sends (bytesOut n v) (o .sofar .transfer)) (sends-octets n v (o .sofar .transfer) (m .octets)) (sends-most n v (o .sofar .transfer))
+  sends-within : (n v : ℕ) → Within (suc k) (withTransfer (sends (bytesOut n v) (o .transfer)) o)
+  sends-within n v = transfer-within (sends (bytesOut n v) (o .transfer)) _ _ _ (sends-octets n v (o .transfer) (m .octets)) (sends-most n v (o .transfer))
 
   takes-octets : (u : Transfer) (v : ℕ) → OctetsIn u → OctetsIn (takes v u)
   takes-octets closed v p = tt
@@ -192,44 +182,35 @@ module _ (k : ℕ) (o : Observed) (m : Within k o) where
   takes-most closed v = omega arith
   takes-most (opened sent reply) v = omega arith
 
-  closing-within : (b : Bool) (d : Option Chunk)
-      → Within (suc k) (record { sofar = closing b (o .sofar .transfer) (o .sofar .programs) (o .sofar .finished); up = o .up; doubt = d })
+  closing-within : (b : Bool) → Within (suc k) (closing b o)
   unfolding closing
-  closing-within true d = record {
-    octets = tt;
-    few = omega (arith, m .few, also-few (o .sofar .finished) (o .sofar .programs));
-    small = omega (arith, m .small, also-total (o .sofar .finished) (o .sofar .programs));
-  }
-  closing-within false d = record {
-    octets = tt;
-    few = omega (arith, m .few);
-    small = omega (arith, m .small, commanded-most (o .sofar .transfer) (o .sofar .programs));
-  }
+  closing-within true = transfer-within closed _ _ _ tt (omega arith)
+  closing-within false = transfer-within closed _ _ _ tt (omega arith)
 
   write-within : {off : ℕ} → At off → (v : ℕ) → Within (suc k) (see o (access.Write off v))
-  unfolding see seen seenWrite enableWritten doubtAfter registerAt
-  write-within at-config v = same-within _ _
-  write-within at-status v = same-within _ _
-  write-within at-enable zero = closing-within (observer.isClean (o .sofar .transfer)) _
-  write-within at-enable (suc v) = record { octets = tt; few = omega (arith, m .few); small = omega (arith, m .small) }
-  write-within at-rx v = same-within _ _
+  unfolding see seenWrite configWritten enableWritten registerAt
+  write-within at-config v = same-within _ _ _
+  write-within at-status v = same-within _ _ _
+  write-within at-enable zero = closing-within (observer.isClean (o .transfer))
+  write-within at-enable (suc v) = transfer-within (opened [] observer.unread) _ _ _ tt (omega arith)
+  write-within at-rx v = same-within _ _ _
   write-within at-four v = sends-within 4 v
   write-within at-one v = sends-within 1 v
   write-within at-two v = sends-within 2 v
   write-within at-three v = sends-within 3 v
-  write-within (at-other a b c d f g h i) v = simp (a, b, c, d, f, g, h, i) (same-within _ _)
+  write-within (at-other a b c d f g h i) v = simp (a, b, c, d, f, g, h, i) (same-within _ _ _)
 
   read-within : {off : ℕ} → At off → (v : ℕ) → Within (suc k) (see o (access.Read off v))
-  unfolding see seen seenRead registerAt
-  read-within at-config v = same-within _ _
-  read-within at-status v = same-within _ _
-  read-within at-enable v = same-within _ _
-  read-within at-rx v = transfer-within (takes v (o .sofar .transfer)) (takes-octets (o .sofar .transfer) v (m .octets)) (takes-most (o .sofar .transfer) v)
-  read-within at-four v = same-within _ _
-  read-within at-one v = same-within _ _
-  read-within at-two v = same-within _ _
-  read-within at-three v = same-within _ _
-  read-within (at-other a b c d f g h i) v = simp (a, b, c, d, f, g, h, i) (same-within _ _)
+  unfolding see seenRead registerAt
+  read-within at-config v = same-within _ _ _
+  read-within at-status v = same-within _ _ _
+  read-within at-enable v = same-within _ _ _
+  read-within at-rx v = transfer-within (takes v (o .transfer)) _ _ _ (takes-octets (o .transfer) v (m .octets)) (takes-most (o .transfer) v)
+  read-within at-four v = same-within _ _ _
+  read-within at-one v = same-within _ _ _
+  read-within at-two v = same-within _ _ _
+  read-within at-three v = same-within _ _ _
+  read-within (at-other a b c d f g h i) v = simp (a, b, c, d, f, g, h, i) (same-within _ _ _)
 
   pub within-see : (a : Access) → Within (suc k) (see o a)
   within-see (access.Read off v) = read-within (register-at off) v
@@ -265,7 +246,7 @@ pub shows-observed : (l : List Access) (rest : List ℕ) → Loggable l → leng
 unfolding watchOf observed total
 shows-observed l rest ok few =
     let d : Access = access.Read 0 0 in
-    let begin : Within 0 observer.fresh = record { octets = tt; few = omega arith; small = omega arith } in
+    let begin : Within 0 observer.fresh = record { octets = tt; small = omega arith } in
     let stands : (j : ℕ) → j < length l → entryAt (encode l ++ rest) (0 + j) ≡ entry.Access (getD l j d) =
     λ j h. (let e : 0 + j ≡ j = omega arith in ap (λ (n : ℕ). entryAt (encode l ++ rest) n) e ∙ reads-back d rest l j ok h) in
     follows (encode l ++ rest) l 0 observer.fresh (holds (encode l ++ rest) d l 0 stands) begin (omega arith)

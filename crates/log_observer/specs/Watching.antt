@@ -11,24 +11,25 @@ use Rattle.zedboard_bsp.specs.Words.{topByte}
 use Rattle.access_log.specs.declared.Entry.{Entry}
 use Rattle.access_log.specs.declared.Entry.the-variants as entry
 use Rattle.access_log.specs.Log.{entryAt}
-use Rattle.log_observer.specs.declared.Spot.{Spot}
+use Rattle.log_observer.specs.declared.Doubt.{Doubt}
 use Rattle.log_observer.specs.declared.Transfer.{Transfer}
 use Rattle.log_observer.specs.declared.Watch.{Watch}
 
 -- ---- no chunk, no transfer, nothing seen
 
-abbrev pub nowhere : Spot
-nowhere = record { there = false; address = 0; length = 0 }
+abbrev pub noDoubt : Doubt
+noDoubt = record { there = false; address = 0; length = 0; chunks = 0; bytes = 0 }
 
 abbrev pub notOpen : Transfer
 notOpen = record { active = false; sent = 0; head = 0; reply = 0 }
 
+-- before the first RX word is read it shows busy
 abbrev pub justOpen : Transfer
-justOpen = record { active = true; sent = 0; head = 0; reply = 0 }
+justOpen = record { active = true; sent = 0; head = 0; reply = 0x0100_0000 }
 
 -- "At the start of a run bits 10, 14 and 15 are set": chip select is high
 abbrev pub fresh : Watch
-fresh = record { transfer = notOpen; programs = nowhere; finished = 0; bytes = 0; up = true; doubt = nowhere }
+fresh = record { transfer = notOpen; up = true; doubt = noDoubt; finished = 0; bytes = 0 }
 
 -- ---- bytes sent: "Words are written low byte first" ("One transfer, access by access")
 
@@ -83,48 +84,45 @@ isClean t = cond (isStatusRead t) (cond (isSet 6 (topByte (t .reply))) false (no
 abbrev pub addressIn : ℕ → ℕ
 addressIn head = head / 0x100 % 0x100 * 0x1_0000 + head / 0x1_0000 % 0x100 * 0x100 + head / 0x100_0000 % 0x100
 
-abbrev pub chunkOf : Transfer → Spot
-chunkOf t = record { there = true; address = addressIn (t .head); length = t .sent - 4 }
+-- ---- chunks in doubt
 
--- the chunk of a page program command; other commands leave the one there was
-abbrev pub commanded : Transfer → Spot → Spot
-commanded t before = cond (isProgram t) (chunkOf t) before
+-- the first of them by its place
+abbrev pub placed : Bool → Doubt → ℕ → ℕ → Doubt
+placed true d a n = d
+placed false d a n = record { there = true; address = a; length = n; chunks = d .chunks; bytes = d .bytes }
+
+abbrev pub withOne : Doubt → ℕ → Doubt
+withOne d n = record { there = d .there; address = d .address; length = d .length; chunks = (d .chunks + 1) % 2 ^ 32; bytes = (d .bytes + n) % 2 ^ 32 }
+
+-- one more, of so many bytes at an address
+abbrev pub joined : Doubt → ℕ → ℕ → Doubt
+joined d a n = placed (d .there) (withOne d n) a n
+
+-- the chunk of a page program command; other commands leave those there were
+abbrev pub commanded : Transfer → Doubt → Doubt
+commanded t d = cond (isProgram t) (joined d (addressIn (t .head)) (t .sent - 4)) d
 
 -- "it is in doubt from the rising chip select of its page program command"
-abbrev pub raised : Bool → Bool → Transfer → Spot → Spot
-raised was is t doubt = cond was doubt (cond is (commanded t doubt) doubt)
+abbrev pub raised : Bool → Bool → Transfer → Doubt → Doubt
+raised was is t d = cond was d (cond is (commanded t d) d)
 
 -- ---- what an access adds
 
-abbrev pub counted : ℕ → Bool → ℕ
-counted n there = cond there ((n + 1) % 2 ^ 32) n
-
 abbrev pub withTransfer : Watch → Transfer → Watch
-withTransfer w t = record { transfer = t; programs = w .programs; finished = w .finished; bytes = w .bytes; up = w .up; doubt = w .doubt }
+withTransfer w t = record { transfer = t; up = w .up; doubt = w .doubt; finished = w .finished; bytes = w .bytes }
 
 -- "finished once its status loop has ended clean in the log .., the closing of the last status transfer included"
 abbrev pub finish : Watch → Watch
 finish w = record {
   transfer = notOpen;
-  programs = nowhere;
-  finished = counted (w .finished) (w .programs .there);
-  bytes = (w .bytes + w .programs .length) % 2 ^ 32;
   up = w .up;
-  doubt = nowhere;
-}
-
-abbrev pub leave : Watch → Watch
-leave w = record {
-  transfer = notOpen;
-  programs = commanded (w .transfer) (w .programs);
-  finished = w .finished;
-  bytes = w .bytes;
-  up = w .up;
-  doubt = w .doubt;
+  doubt = noDoubt;
+  finished = (w .finished + w .doubt .chunks) % 2 ^ 32;
+  bytes = (w .bytes + w .doubt .bytes) % 2 ^ 32;
 }
 
 abbrev pub closed : Watch → Watch
-closed w = cond (isClean (w .transfer)) (finish w) (leave w)
+closed w = cond (isClean (w .transfer)) (finish w) (withTransfer w notOpen)
 
 abbrev pub enabled : Watch → ℕ → Watch
 enabled w v = cond (eqb v 0) (closed w) (withTransfer w justOpen)
@@ -133,11 +131,10 @@ enabled w v = cond (eqb v 0) (closed w) (withTransfer w justOpen)
 abbrev pub configured : Watch → ℕ → Watch
 configured w v = record {
   transfer = w .transfer;
-  programs = w .programs;
-  finished = w .finished;
-  bytes = w .bytes;
   up = isSet 10 v;
   doubt = raised (w .up) (isSet 10 v) (w .transfer) (w .doubt);
+  finished = w .finished;
+  bytes = w .bytes;
 }
 
 -- by the register's offset: "config 00, .. SPI enable 14, TX data (four bytes) 1C, .. one, two, three bytes 80, 84, 88"

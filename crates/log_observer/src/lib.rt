@@ -1,9 +1,9 @@
-// What a log of the flash path shows by itself: the chunks that `write_pages` finished, and the one
-// in doubt. Document 01, "The flash, as defined here". The log alone is read, so that whoever finds
-// one after a power cut can tell what the flash holds.
+// What a log of the flash path shows by itself: the chunks that `write_pages` finished, and those in
+// doubt. Document 01, "The flash, as defined here". The log alone is read, so that whoever finds one
+// after a power cut can tell what the flash holds.
 ghost use mathlib.Core.Path.{_≡_};
 ghost use Prim.Native.Nat.{_-_};
-ghost use Rattle.log_observer.specs.Watching.{nowhere, notOpen, justOpen, fresh, headWith, push, sendOne, sendTwo, sendThree, sendFour, takeReply, isProgram, isStatusRead, isClean, addressIn, commanded, raised, counted, withTransfer, finish, leave, closed, enabled, configured, wrote, hasRead, watched, watchOf};
+ghost use Rattle.log_observer.specs.Watching.{noDoubt, notOpen, justOpen, fresh, headWith, push, sendOne, sendTwo, sendThree, sendFour, takeReply, isProgram, isStatusRead, isClean, addressIn, joined, commanded, raised, withTransfer, finish, closed, enabled, configured, wrote, hasRead, watched, watchOf};
 use access_log::Entry;
 use access_log::entry_at;
 use zedboard_bsp::qspi_spansion::StatusRegister1;
@@ -13,11 +13,14 @@ use zynq7000::qspi;
 use zynq7000::qspi::Access;
 use zynq7000::qspi::Config;
 
-// A chunk by its place in the flash, or none.
-pub struct Spot {
+// The chunks in doubt: the first of them by its place in the flash, or none; how many they are, and
+// their bytes (both modulo 2^32). Of a run of `write_pages` there is never a second one.
+pub struct Doubt {
     pub there: bool,
     pub address: u32,
     pub length: u32,
+    pub chunks: u32,
+    pub bytes: u32,
 }
 
 // What lies between a write of 1 and a write of 0 to SPI enable: how many bytes were sent (modulo
@@ -29,26 +32,29 @@ pub struct Transfer {
     pub reply: u32,
 }
 
-// What is seen so far: the transfer at hand; the page program that is sent and not finished; how many
-// chunks are finished, and their bytes (both modulo 2^32); whether chip select is high; and the chunk
-// in doubt.
+// What is seen so far: the transfer at hand; whether chip select is high; the chunks in doubt; how many
+// chunks are finished, and their bytes (both modulo 2^32).
 pub struct Watch {
     pub transfer: Transfer,
-    pub programs: Spot,
+    pub up: bool,
+    pub doubt: Doubt,
     pub finished: u32,
     pub bytes: u32,
-    pub up: bool,
-    pub doubt: Spot,
 }
 
-// No chunk.
-fn nowhere() -> Spot
-    ensures spot { λ r. ⌜ r ≡ nowhere ⌝ }
+// Before the first RX word of a transfer is read: a status that shows busy, so that none counts as
+// clean that nobody read.
+const UNREAD: u32 = 0x0100_0000;
+
+fn no_doubt() -> Doubt
+    ensures doubt { λ r. ⌜ r ≡ noDoubt ⌝ }
 {
-    Spot {
+    Doubt {
         there: false,
         address: 0,
         length: 0,
+        chunks: 0,
+        bytes: 0,
     }
 }
 
@@ -70,7 +76,7 @@ fn just_open() -> Transfer
         active: true,
         sent: 0,
         head: 0,
-        reply: 0,
+        reply: UNREAD,
     }
 }
 
@@ -203,25 +209,46 @@ fn data_length(sent: u32) -> u32
     if 4 < sent { sent - 4 } else { 0 }
 }
 
-// The chunk of a page program; other commands leave the one there was.
-fn commanded(t: Transfer, before: Spot) -> Spot
-    ensures spot { λ r. ⌜ r ≡ commanded t before ⌝ }
+// One more in doubt.
+fn joined(doubt: Doubt, address: u32, length: u32) -> Doubt
+    ensures doubt { λ r. ⌜ r ≡ joined doubt address length ⌝ }
 {
-    if is_program(t) {
-        Spot {
+    let chunks = std::num::wrapping_add_u32(doubt.chunks, 1);
+    let bytes = std::num::wrapping_add_u32(doubt.bytes, length);
+    if doubt.there {
+        Doubt {
             there: true,
-            address: address_in(t.head),
-            length: data_length(t.sent),
+            address: doubt.address,
+            length: doubt.length,
+            chunks,
+            bytes,
         }
     } else {
-        before
+        Doubt {
+            there: true,
+            address,
+            length,
+            chunks,
+            bytes,
+        }
     }
 }
 
-// The chunk in doubt, where chip select was and is high or low: a page program is in doubt once it
+// The chunk of a page program is in doubt too; other commands leave those that are.
+fn commanded(t: Transfer, doubt: Doubt) -> Doubt
+    ensures doubt { λ r. ⌜ r ≡ commanded t doubt ⌝ }
+{
+    if is_program(t) {
+        joined(doubt, address_in(t.head), data_length(t.sent))
+    } else {
+        doubt
+    }
+}
+
+// The chunks in doubt, where chip select was and is high or low: a page program is in doubt once it
 // rises.
-fn raised(was: bool, is: bool, t: Transfer, doubt: Spot) -> Spot
-    ensures spot { λ r. ⌜ r ≡ raised was is t doubt ⌝ }
+fn raised(was: bool, is: bool, t: Transfer, doubt: Doubt) -> Doubt
+    ensures doubt { λ r. ⌜ r ≡ raised was is t doubt ⌝ }
 {
     if was {
         return doubt;
@@ -232,69 +259,41 @@ fn raised(was: bool, is: bool, t: Transfer, doubt: Spot) -> Spot
     doubt
 }
 
-// One more, where there is one.
-fn counted(finished: u32, there: bool) -> u32
-    ensures count { λ r. ⌜ r ≡ counted finished there ⌝ }
-{
-    if there {
-        std::num::wrapping_add_u32(finished, 1)
-    } else {
-        finished
-    }
-}
-
 fn with_transfer(w: Watch, transfer: Transfer) -> Watch
     ensures watch { λ r. ⌜ r ≡ withTransfer w transfer ⌝ }
 {
-    let programs = w.programs;
     let doubt = w.doubt;
     Watch {
         transfer,
-        programs,
-        finished: w.finished,
-        bytes: w.bytes,
         up: w.up,
         doubt,
+        finished: w.finished,
+        bytes: w.bytes,
     }
 }
 
-// A clean status transfer closes: the program sent last is finished, and nothing is in doubt.
+// A clean status transfer closes: what was in doubt is finished.
 fn finish(w: Watch) -> Watch
     ensures watch { λ r. ⌜ r ≡ finish w ⌝ }
 {
-    let programs = w.programs;
+    let doubt = w.doubt;
     Watch {
         transfer: not_open(),
-        programs: nowhere(),
-        finished: counted(w.finished, programs.there),
-        bytes: std::num::wrapping_add_u32(w.bytes, programs.length),
         up: w.up,
-        doubt: nowhere(),
+        doubt: no_doubt(),
+        finished: std::num::wrapping_add_u32(w.finished, doubt.chunks),
+        bytes: std::num::wrapping_add_u32(w.bytes, doubt.bytes),
     }
 }
 
-// Another transfer closes: what is in doubt still is.
-fn leave(w: Watch) -> Watch
-    ensures watch { λ r. ⌜ r ≡ leave w ⌝ }
-{
-    let still = w.doubt;
-    Watch {
-        transfer: not_open(),
-        programs: commanded(w.transfer, w.programs),
-        finished: w.finished,
-        bytes: w.bytes,
-        up: w.up,
-        doubt: still,
-    }
-}
-
+// Another one closes: what is in doubt still is.
 fn closed(w: Watch) -> Watch
     ensures watch { λ r. ⌜ r ≡ closed w ⌝ }
 {
     if is_clean(w.transfer) {
         finish(w)
     } else {
-        leave(w)
+        with_transfer(w, not_open())
     }
 }
 
@@ -315,14 +314,12 @@ fn configured(w: Watch, value: u32) -> Watch
 {
     let high = bits::is_set(value, Config::PERIPHERAL_CHIP_SELECT);
     let transfer = w.transfer;
-    let programs = w.programs;
     Watch {
         transfer,
-        programs,
-        finished: w.finished,
-        bytes: w.bytes,
         up: high,
         doubt: raised(w.up, high, w.transfer, w.doubt),
+        finished: w.finished,
+        bytes: w.bytes,
     }
 }
 
@@ -375,11 +372,10 @@ fn start() -> Watch
 {
     Watch {
         transfer: not_open(),
-        programs: nowhere(),
+        up: true,
+        doubt: no_doubt(),
         finished: 0,
         bytes: 0,
-        up: true,
-        doubt: nowhere(),
     }
 }
 

@@ -10,7 +10,7 @@ raised-requires : tie.Need-raised-requires
 raised-requires c κs = search needs
 
 returns : tie.Need-returns
-returns c = simp (c .raised .ensures, c .before .before .before .is-set .ensures)
+returns c = simp (c .raised .ensures, c .before .before .is-set .ensures)
 
 pub configured-spec : {M : Type 1} → statement M
 configured-spec = tie.close (tie.spec is-set-requires raised-requires returns)
