@@ -25,6 +25,7 @@ use Rattle.log_observer.specs.declared.Watch.{Watch}
 use Rattle.log_observer.specs.Watching.{takeReply, wrote, hasRead, watched, watchFrom, watchOf}
 use Rattle.log_observer.specs.Watching as watching
 use Rattle.log_observer.specs.Shown.{doubtOf, transferOf, shown}
+use Rattle.power_cut.proofs.Driver.{total-append}
 use Rattle.log_observer.proofs.Bounds.{OctetsIn, sentIn, Within}
 use Rattle.log_observer.proofs.Sending.{one-sent, two-sent, three-sent, four-sent, sends-octets, sends-most}
 use Rattle.log_observer.proofs.Commands.{raised-shown, clean-shown}
@@ -85,11 +86,6 @@ register-at o = by-config (eqb o 0x00) refl
     by-config false e = by-status (eqb o 0x04) refl e
 
 -- ---- a transfer closes
-
-total-append : (k q : List Chunk) → total (k ++ q) ≡ total k + total q
-unfolding total
-total-append [] q = omega arith
-total-append (c ∷ k) q = omega (arith, total-append k q)
 
 chunks-shown : (k q : List Chunk) → (length k % 2 ^ 32 + doubtOf q .chunks) % 2 ^ 32 ≡ length (k ++ q) % 2 ^ 32
 chunks-shown k [] = omega (arith, length-append k [])

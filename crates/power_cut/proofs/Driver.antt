@@ -297,6 +297,11 @@ unfolding total
 total-snoc [] c = omega arith
 total-snoc (b ∷ k) c = omega (arith, total-snoc k c)
 
+pub total-append : (k l : List Chunk) → total (k ++ l) ≡ total k + total l
+unfolding total
+total-append [] l = omega arith
+total-append (c ∷ k) l = omega (arith, total-append k l)
+
 begin-settled : (e b : Bool) (c : Chunk) (l k : List Chunk)
     → begin (onward (not e && b) (settle c l) (onward e (failing ProgrammingErrorBitSet) (rest c l))) [] (total k) ≡ stateOf (settled e b c l k)
 unfolding settled

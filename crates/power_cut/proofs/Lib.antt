@@ -6,6 +6,7 @@ pub mod Levels
 pub mod Control
 pub mod OnDevice
 pub mod Theorem
+pub mod Few
 pub mod Plain
 pub mod Offsets
 pub mod Ways

@@ -60,13 +60,21 @@ abbrev finishedBy : Driver → List Chunk
 finishedBy (at s p taken c l k) = k
 finishedBy (over a l k) = k
 
-pub sees-all : (early whole : List Chunk) (d : Driver) (h : Bool) (l : List Access) → Good whole d → Makes (stateOf d) l → sees (view early d h) l .finished ≡ early ++ finishedBy (driven d l)
+finished-by : (early : List Chunk) (d : Driver) (h : Bool) → view early d h .finished ≡ early ++ finishedBy d
+finished-by early (at s p taken c l k) h = refl
+finished-by early (over a l k) h = refl
+
+-- what is seen is what the driver shows, where chip select is at one level or the other
+pub record Viewed (early : List Chunk) (d : Driver) (o : Observed) : Type 0 where
+  pub level : Bool
+  pub is : o ≡ view early d level
+
+pub sees-all : (early whole : List Chunk) (d : Driver) (h : Bool) (l : List Access) → Good whole d → Makes (stateOf d) l → Viewed early (driven d l) (sees (view early d h) l)
 unfolding sees
-sees-all early whole (at s p taken c l k) h [] g f = refl
-sees-all early whole (over a l k) h [] g f = refl
+sees-all early whole d h [] g f = record { level = h; is = refl }
 sees-all early whole d h (a ∷ l) g f =
-    ap (λ (o : Observed). sees o l .finished) (watch early whole d h a g (f .0))
-    ∙ sees-all early whole (driverAfter d (valueWord a)) (levelAfter d (valueWord a) h) l (good-next whole d (valueWord a) g) (follows-on d a l f)
+    let r = sees-all early whole (driverAfter d (valueWord a)) (levelAfter d (valueWord a) h) l (good-next whole d (valueWord a) g) (follows-on d a l f) in
+    record { level = r .level; is = ap (λ (o : Observed). sees o l) (watch early whole d h a g (f .0)) ∙ r .is }
 
 -- ---- the whole run against the device
 
@@ -237,6 +245,14 @@ whole-done whole (over succeeded l k) g e = ap total (sym (append-nil k) ∙ ap 
 whole-done whole (over failed l k) g e = let y : _≡_ {A = ℕ} 0 1 = cc in absurd (omega (arith, y))
 whole-done whole (over (refuses b) l k) g e = absurd (g .1 e)
 
+-- of every log that the call makes, whatever the replies
+pub viewed : (a : ℕ) (bs : List ℕ) → AllBytes bs → (l : List Access) → Makes (begin (writePages a bs) [] 0) l → Viewed [] (driven (driverStart a bs) l) (observed l)
+unfolding observed
+viewed a bs h l f =
+    let f′ : Makes (stateOf (driverStart a bs)) l = rw (start-is a bs) at f in
+    let v = sees-all [] (chunks a bs) (driverStart a bs) false l (good-driver a bs h) f′ in
+    record { level = v .level; is = ap (λ (o : Observed). sees o l) (sym (start-shows a bs)) ∙ v .is }
+
 -- the statement of a result
 abbrev pub PowerCutOf : ℕ → List ℕ → Result → Type 0
 PowerCutOf a bs r = PowerCut a bs (r .log) (r .answer) (countIn (r .state))
@@ -264,7 +280,7 @@ power-cut-of a bs h l answer s f₀ e₀ done = record {
     ends-in = e₀ ∙ ap (λ (z : State). after z l) (start-is a bs) ∙ driven-is d l
 
     shown : sees fresh l .finished ≡ finishedBy (driven d l)
-    shown = ap (λ (o : Observed). sees o l .finished) (sym (start-shows a bs)) ∙ sees-all [] (chunks a bs) d false l g f
+    shown = let v = viewed a bs h l f₀ in ap (λ (o : Observed). o .finished) (v .is) ∙ finished-by [] (driven d l) (v .level)
 
 pub power-cut : (a : ℕ) (bs : List ℕ) → AllBytes bs → (room : ℕ) (replies : List ℕ) → PowerCutOf a bs (called (writePages a bs) room replies)
 power-cut a bs h room rs =
