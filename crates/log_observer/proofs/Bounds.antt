@@ -3,7 +3,6 @@ use Prim.Native.Nat.{ℕ, _+_, _*_, _≤_}
 use mathlib.Core.Path.{_≡_}
 use mathlib.Core.List.{List, [], _∷_, _++_}
 use lib.ListN.{length, length-append}
-use native.Mathlib.Omega.{arith}
 use Rattle.qspi_calls.proofs.WireOrder.{AllBytes}
 use Rattle.power_cut.specs.Observer.{Transfer, closed, opened, Observed}
 

@@ -14,7 +14,7 @@ use Rattle.zynq7000.specs.Bits.{isSet, clear}
 use Rattle.zynq7000.specs.declared.qspi.Access.the-variants as access
 use Rattle.zedboard_bsp.specs.Words.{topByte}
 use Rattle.power_cut.specs.Flash.{Array, Flash, flash, busy, execute, Settles}
-use Rattle.power_cut.specs.Controller.{registerAt, bytesOut, high, showsBusy, showsProgramError, showsEraseError, isStatusRead, Device, device, Shows, Silent, out, unasked, idle, configured, afterWrite, afterRead, effect, GivenBy, Gives, Rests, rests}
+use Rattle.power_cut.specs.Controller.{registerAt, bytesOut, high, showsBusy, showsProgramError, showsEraseError, isStatusRead, device, Shows, Silent, out, unasked, idle, configured, afterWrite, afterRead, effect, GivenBy, Gives, Rests, rests}
 
 -- ---- "TX data (four bytes) 1C, .. TX data of one, two, three bytes 80, 84, 88"
 

@@ -1,9 +1,9 @@
 -- The statement at work. `witness`: a whole run of an accepted call that meets the premises, with an RX word from before, words that go out late
 -- and a status that shows busy; and what its log shows at some cut points. `loose-fails`: without the premise that all words are out before chip
 -- select rises, the statement is false, by a run of four bytes whose data word is left behind. Assumes nothing.
-use mathlib.Core.Path.{_≡_, refl, _∙_, sym}
+use mathlib.Core.Path.{_≡_, refl, sym}
 use mathlib.Core.Bool.{Bool, true, false, true≢false}
-use mathlib.Core.Option.{none, some}
+use mathlib.Core.Option.{none}
 use mathlib.Core.List.{List, [], _∷_}
 use Prim.Native.Nat.{ℕ}
 use native.Mathlib.Omega.{arith}

@@ -1,11 +1,11 @@
 -- What a log of `write_pages` shows, whatever the replies and wherever it ends: no more bytes finished and in doubt than there are data, and no
 -- more chunks than bytes. Assumes nothing.
-use mathlib.Core.Path.{_≡_, refl, ap, _∙_, sym}
+use mathlib.Core.Path.{_≡_, ap}
 use mathlib.Core.Bool.{Bool, true, false}
 use mathlib.Core.List.{List, [], _∷_, _++_}
 use Prim.Native.Nat.{ℕ, _+_, _≤_}
 use native.Mathlib.Omega.{arith}
-use lib.ListN.{length, length-append}
+use lib.ListN.{length}
 use Rattle.zynq7000.specs.declared.qspi.Access.{Access}
 use Rattle.qspi_operation.specs.Machine.{begin, Makes}
 use Rattle.qspi_calls.specs.Chunks.{Chunk, chunks}

@@ -1,18 +1,18 @@
 -- The definition of the observer read back: when a chunk comes into doubt, when those in doubt are finished, and that a status that nobody read
 -- finishes nothing. Assumes nothing.
 use Prim.Native.Nat.{ℕ, suc, _/_, _%_, _^_}
-use mathlib.Core.Path.{_≡_, refl, ap, _∙_}
+use mathlib.Core.Path.{_≡_, refl}
 use mathlib.Core.Bool.{Bool, true, false, not, _&&_}
 use mathlib.Core.List.{List, [], _∷_, _++_}
 use native.Mathlib.Omega.{arith}
+use lib.Dec.{eqb}
 use borrow.Author.Tests.{eq-eqb, ne-eqb}
 use Rattle.zynq7000.specs.Bits.{isSet}
-use Rattle.zynq7000.specs.declared.qspi.Access.{Access}
 use Rattle.zynq7000.specs.declared.qspi.Access.the-variants.{Read, Write}
 use Rattle.zedboard_bsp.specs.Words.{topByte}
 use Rattle.qspi_calls.specs.Chunks.{Chunk}
 use Rattle.power_cut.specs.Flash.{pageProgram, commandOf, programOf, eraseOf}
-use Rattle.power_cut.specs.Controller.{registerAt, bytesOut, high, isStatusRead}
+use Rattle.power_cut.specs.Controller.{registerAt, bytesOut, isStatusRead}
 use Rattle.power_cut.specs.Observer.{Transfer, closed, opened, unread, Observed, raised, configWritten, isClean, closing, enableWritten, seenWrite, seenRead, see, sees, observed}
 
 -- ---- "error bit and bit 0 clear"
@@ -64,6 +64,43 @@ nobody-read o v = rw (unread-unclean (v % 256 ∷ v / 2 ^ 8 % 256 ∷ []))
 pub never-read : (observed (Write 0x14 1 ∷ Write 0x1C 0x00010002 ∷ Write 0x1C 0xEFBEADDE ∷ Write 0x14 0 ∷ Write 0x14 1 ∷ Write 0x84 0x05 ∷ Write 0x14 0 ∷ []) .finished ≡ [])
 unfolding observed sees see seenWrite seenRead configWritten enableWritten closing isClean isStatusRead raised registerAt bytesOut commandOf programOf eraseOf
 never-read = refl
+
+-- ---- a transfer goes on
+
+module _ (sent : List ℕ) (reply : ℕ) (h : Bool) (q k : List Chunk) where
+  -- an RX word is its reply, and finishes nothing before the closing
+  pub reply-taken : (v : ℕ) → see (record { transfer = opened sent reply; up = h; doubt = q; finished = k }) (Read 0x20 v) ≡ record { transfer = opened sent v; up = h; doubt = q; finished = k }
+  unfolding see seenRead registerAt
+  reply-taken v = refl
+
+  -- a word joins what was sent, by the bytes of its port
+  pub word-sent : (v : ℕ) → see (record { transfer = opened sent reply; up = h; doubt = q; finished = k }) (Write 0x1C v)
+      ≡ record { transfer = opened (sent ++ v % 256 ∷ v / 2 ^ 8 % 256 ∷ v / 2 ^ 16 % 256 ∷ v / 2 ^ 24 % 256 ∷ []) reply; up = h; doubt = q; finished = k }
+  unfolding see seenWrite registerAt bytesOut
+  word-sent v = refl
+
+-- outside a transfer neither belongs to one
+pub outside : (h : Bool) (q k : List Chunk) (v : ℕ)
+    → (see (record { transfer = closed; up = h; doubt = q; finished = k }) (Read 0x20 v) ≡ record { transfer = closed; up = h; doubt = q; finished = k })
+    × (see (record { transfer = closed; up = h; doubt = q; finished = k }) (Write 0x1C v) ≡ record { transfer = closed; up = h; doubt = q; finished = k })
+unfolding see seenRead seenWrite registerAt bytesOut
+outside h q k v = (refl, refl)
+
+-- other registers show nothing
+pub not-looked-at : (o : Observed) (offset v : ℕ) → eqb offset 0x00 ≡ false → eqb offset 0x14 ≡ false → eqb offset 0x20 ≡ false → eqb offset 0x1C ≡ false → eqb offset 0x80 ≡ false → eqb offset 0x84 ≡ false
+    → eqb offset 0x88 ≡ false
+    → (see o (Read offset v) ≡ o) × (see o (Write offset v) ≡ o)
+unfolding see seenRead seenWrite registerAt
+not-looked-at o offset v e₁ e₂ e₃ e₄ e₅ e₆ e₇ = go (eqb offset 0x04) refl
+  where
+    go : (b : Bool) → eqb offset 0x04 ≡ b → (see o (Read offset v) ≡ o) × (see o (Write offset v) ≡ o)
+    go true e = (rw (e₁, e), rw (e₁, e))
+    go false e = (rw (e₁, e, e₂, e₃, e₄, e₅, e₆, e₇), rw (e₁, e, e₂, e₃, e₄, e₅, e₆, e₇))
+
+-- nor does a read of config, of SPI enable or of a TX register
+pub read-keeps : (o : Observed) (v : ℕ) → (see o (Read 0x00 v) ≡ o) × ((see o (Read 0x14 v) ≡ o) × (see o (Read 0x1C v) ≡ o))
+unfolding see seenRead registerAt
+read-keeps o v = (refl, (refl, refl))
 
 -- ---- a transfer closes
 

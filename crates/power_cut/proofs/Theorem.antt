@@ -18,7 +18,7 @@ use Rattle.qspi_operation.proofs.Orders.{run-ended}
 use Rattle.qspi_calls.specs.Calls.{writePages}
 use Rattle.qspi_calls.proofs.WireOrder.{AllBytes}
 use Rattle.power_cut.specs.Flash.{Array, lands, Flash, flash, AfterCut}
-use Rattle.power_cut.specs.Controller.{high, Device, device, flashOf, AllOut, Trace, still, quiet, step, Rests, rests}
+use Rattle.power_cut.specs.Controller.{Device, device, flashOf, AllOut, Trace, still, quiet, step, Rests, rests}
 use Rattle.power_cut.specs.Observer.{closed, Observed, see, sees, fresh, observed}
 use Rattle.power_cut.specs.Statement.{In, total, NextOnly, no-doubt, the-next, Kept, PowerCut}
 use Rattle.power_cut.proofs.Driver.{Phase, draining, dropping, opening, lowering, switching, sending, starting, releasing, waiting, again, taking, closing, raising, leaving, midway, action, isLast, Stage, enables, programs, polls, clears, disables, succeeded, failed, refuses, Driver, at, over, stateOf, startNext, driverAfter, driverStart, next-is, start-is}
@@ -27,7 +27,7 @@ use Rattle.power_cut.proofs.Levels.{both-set, high-start}
 use Rattle.power_cut.proofs.Watch.{risenAt, doubtAt, view, view-start, levelAfter, watch}
 use Rattle.power_cut.proofs.Lands.{applied, lands-out, spared, beside, Ordered, applied-in, applied-out, chunks-ordered, chunks-total, ordered-front, ordered-seam}
 use Rattle.power_cut.proofs.Control.{Up, Held, held, c-release}
-use Rattle.power_cut.proofs.OnDevice.{Calm, calm, Ready, ready, Works, under, past, FlashAt, Known, OnDevice, during, silent, begins, advance}
+use Rattle.power_cut.proofs.OnDevice.{Calm, calm, Ready, ready, Works, under, past, FlashAt, OnDevice, during, silent, begins, advance}
 use Rattle.power_cut.proofs.OnDevice as on
 
 -- ---- the logs that a machine makes

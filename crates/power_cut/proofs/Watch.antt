@@ -12,11 +12,11 @@ use Rattle.zynq7000.specs.declared.qspi.Access.the-variants as access
 use Rattle.zedboard_bsp.specs.Words.{bytesOf, topByte, addressBytes}
 use Rattle.qspi_transfer.specs.Wire.{waits}
 use Rattle.qspi_calls.specs.Chunks.{Chunk}
-use Rattle.qspi_operation.specs.Machine.{Want, reads, writes, want, Matches, m-read, m-write}
+use Rattle.qspi_operation.specs.Machine.{want, Matches, m-read, m-write}
 use Rattle.qspi_calls.specs.Calls.{bytesOfAll, top}
 use Rattle.qspi_calls.proofs.WireOrder.{program-bytes}
 use Rattle.power_cut.specs.Flash.{pageProgram, commandOf, programOf, addressOf}
-use Rattle.qspi_transfer.specs.LowLevel.{chipSelectHigh, chipSelectLow, started}
+use Rattle.qspi_transfer.specs.LowLevel.{started}
 use Rattle.power_cut.specs.Controller.{tx, registerAt, bytesOut, high, isStatusRead}
 use Rattle.power_cut.specs.Observer.{Transfer, closed, opened, unread, Observed, commanded, raised, configWritten, isClean, enableWritten, seenWrite, seenRead, see}
 use Rattle.power_cut.specs.Observer as observer

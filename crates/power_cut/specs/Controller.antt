@@ -74,7 +74,7 @@ flashOf (device c t u w r f) = f
 -- other bits of a status reply.
 pub record Shows (c : ℕ) (f : Flash) (bs : List ℕ) (reply : ℕ) : Type 0 where
   pub shown : high c ≡ false → isStatusRead bs ≡ true → showsBusy reply ≡ busy f
-  -- demand 3: the flash "reports no error"
+  -- demand 3: the flash "reports no error". `write_pages` looks at the program error alone: no proof of the statement uses the other half
   pub no-error : high c ≡ false → isStatusRead bs ≡ true → (showsProgramError reply ≡ false) × (showsEraseError reply ≡ false)
 
 -- what happens between accesses, at the device's choice

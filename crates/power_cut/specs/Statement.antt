@@ -46,8 +46,8 @@ pub record Kept (a : ℕ) (bs : List ℕ) (old : Array) (o : Observed) (new : Ar
 
 pub record PowerCut (a : ℕ) (bs : List ℕ) (log : List Access) (answer : Status) (count : ℕ) : Type 0 where
   -- "if the power fails before the call's first register access or after any of them": k is 01's cut point, "a number of its accesses, from 0
-  -- to all". On whatever device, schedule, replies and array. Premises: the device rests before the call, the log so far is a trace of it, all words are out before chip
-  -- select rises. Whatever the cut leaves:
+  -- to all" (the bound keeps to those words; no proof uses it). On whatever device, schedule, replies and array. Premises: the device rests before the call, the log so far is a
+  -- trace of it, all words are out before chip select rises. Whatever the cut leaves:
   pub cut : (k : ℕ) → k ≤ length log → (before after : Device) (old new : Array) → Rests old before → Trace AllOut before (take k log) after
       → AfterCut (flashOf after) new → Kept a bs old (observed (take k log)) new
   -- "The count of programmed bytes in the answer, a refusal included, is the sum of the lengths of the chunks finished at the call's end":
