@@ -4,10 +4,12 @@ use mathlib.Core.Path.{_≡_, refl, ap, _∙_}
 use mathlib.Core.Bool.{Bool, true, false, cond, _&&_, true≢false}
 use mathlib.Core.Option.{none, some}
 use mathlib.Core.List.{List, [], _∷_}
+use mathlib.Core.Logic.{_↔_}
 use Prim.Native.Nat.{ℕ, suc, _+_, _*_, _/_, _≤_, _<_}
 use native.Mathlib.Omega.{arith}
 use lib.Dec.{eqb, leb, ltb}
 use borrow.Author.Tests.{eqb-true, eqb-false, leb-true, le-leb, lt-ltb, le-ltb}
+use Rattle.qspi_calls.specs.Chunks.{Chunk}
 use Rattle.power_cut.specs.Flash.{Array, addressOf, programOf, eraseOf, commandOf, byteAddress, landsFrom, lands, erased, Work, programming, erasing, done, Spares, Flash, flash, obey, execute, Settles, settles, AfterCut}
 
 abbrev pub arrayOf : Flash → Array
@@ -89,6 +91,15 @@ settled-does settles = refl
 pub cut-leaves-any : (m new : Array) (latch : Bool) (w : Work) → ((x : ℕ) → Spares w x → new x ≡ m x) → AfterCut (flash m latch (some w)) new
 unfolding AfterCut
 cut-leaves-any m new latch w h = h
+
+-- of a program the bytes that it lands on, of an erase those of its sector
+pub cut-of-program : (m new : Array) (latch : Bool) (c : Chunk) → AfterCut (flash m latch (some (programming c))) new ↔ ((x : ℕ) → lands c x ≡ none → new x ≡ m x)
+unfolding AfterCut
+cut-of-program m new latch c = (λ h. h, λ h. h)
+
+pub cut-of-erase : (m new : Array) (latch : Bool) (a n : ℕ) → AfterCut (flash m latch (some (erasing a n))) new ↔ ((x : ℕ) → ((a ≤ x) × (x < a + n) → ⊥) → new x ≡ m x)
+unfolding AfterCut
+cut-of-erase m new latch a n = (λ h. h, λ h. h)
 
 pub cut-of-idle : (m new : Array) (latch : Bool) → AfterCut (flash m latch none) new → (x : ℕ) → new x ≡ m x
 unfolding AfterCut
