@@ -3,30 +3,77 @@
 /// A call by the Rust's name, with its inputs as numbers.
 #[derive(Clone, Debug, PartialEq, Eq)]
 pub enum Call {
-    Calculate { src_sel: u8, clocks: Clocks, target_ref: u32, target_interface: u32 },
-    CalculateWithLoopback { src_sel: u8, clocks: Clocks, target_interface: u32 },
-    LinearModeConfig { micron: bool, operating_mode: u8, two_devices: bool },
+    Calculate {
+        src_sel: u8,
+        clocks: Clocks,
+        target_ref: u32,
+        target_interface: u32,
+    },
+    CalculateWithLoopback {
+        src_sel: u8,
+        clocks: Clocks,
+        target_interface: u32,
+    },
+    LinearModeConfig {
+        micron: bool,
+        operating_mode: u8,
+        two_devices: bool,
+    },
     /// `baud_rate_div` is the field's code; `None` is loopback.
-    Initialize { src_sel: u8, ref_clk_div: u8, baud_rate_div: Option<u8>, phase: bool, polarity: bool },
-    EnableLinearAddressing { config: u32 },
-    EnableIoMode { dual_flash: bool },
+    Initialize {
+        src_sel: u8,
+        ref_clk_div: u8,
+        baud_rate_div: Option<u8>,
+        phase: bool,
+        polarity: bool,
+    },
+    EnableLinearAddressing {
+        config: u32,
+    },
+    EnableIoMode {
+        dual_flash: bool,
+    },
     Disable,
-    New { set_quad: bool, latency: Option<u8>, clear_protection: bool },
+    New {
+        set_quad: bool,
+        latency: Option<u8>,
+        clear_protection: bool,
+    },
     WriteEnable,
     WriteDisable,
     ClearStatus,
-    WriteStatus { sr: u8 },
-    WriteStatusAndConfigRegister { sr: u8, cr: u8 },
+    WriteStatus {
+        sr: u8,
+    },
+    WriteStatusAndConfigRegister {
+        sr: u8,
+        cr: u8,
+    },
     ReadStatusRegister1,
     ReadConfigurationRegister,
     ReadRdidBase,
     ReadRdidExtended,
-    EraseSector { addr: u32 },
-    Program { addr: u32, data: Vec<u8> },
-    WritePages { addr: u32, data: Vec<u8> },
+    EraseSector {
+        addr: u32,
+    },
+    Program {
+        addr: u32,
+        data: Vec<u8>,
+    },
+    WritePages {
+        addr: u32,
+        data: Vec<u8>,
+    },
     /// Reads `length` bytes: the lent buffer may not be longer.
-    ReadPageRead { addr: u32, length: usize },
-    ReadFastRead { addr: u32, dummy_byte: bool, length: usize },
+    ReadPageRead {
+        addr: u32,
+        length: usize,
+    },
+    ReadFastRead {
+        addr: u32,
+        dummy_byte: bool,
+        length: usize,
+    },
 }
 
 /// Clocks in hertz.

@@ -38,7 +38,7 @@ type Answered = (u32, usize, usize);
 impl Bench {
     /// Takes the replies of a quick device.
     fn new(name: &'static str, call: Call) -> Self {
-        let device = Device::new(Knobs { reads: usize::MAX, ..Knobs::plain() }, Rng::new(1));
+        let device = Device::new(Knobs::plain().lasting(), Rng::new(1));
         let mut buffer = vec![0xAA; read_length(&call)];
         let ran = driver::run(&call, Box::new(device), usize::MAX, &mut buffer);
         assert!(ran.ended.answer == 0, "{name} is not done");

@@ -2,6 +2,7 @@
 
 use crate::device::{Device, Knobs};
 use crate::domain;
+use crate::junk::Junk;
 use crate::kind::Kind;
 use crate::mutants::Mutant;
 use crate::noise::Noise;
@@ -22,6 +23,14 @@ pub enum On {
 }
 
 impl On {
+    /// Log words for a live run: an end for one that polls for ever.
+    fn room(&self) -> usize {
+        match self {
+            On::Device(knobs) => knobs.room,
+            On::Noise => Knobs::plain().room,
+        }
+    }
+
     pub fn source(self, rng: &mut Rng) -> Box<dyn Source> {
         match self {
             On::Device(knobs) => Box::new(Device::new(knobs, rng.fork())),
@@ -33,8 +42,12 @@ impl On {
 /// Where replies and room are cut.
 #[derive(Clone, Copy, Debug, PartialEq, Eq)]
 pub enum Cuts {
+    /// Nowhere, and the run is made with one size of log and replies alone.
+    Once,
     /// Nowhere.
     Whole,
+    /// At so many places in the last sixteenth of the run.
+    Late(usize),
     /// At so many random places.
     Random(usize),
     /// At every place where the run is short enough, else at random ones.
@@ -78,6 +91,7 @@ struct Live {
     log: Vec<u32>,
     list: Rc<[u32]>,
     reads: usize,
+    seed: u64,
 }
 
 impl Checker {
@@ -89,13 +103,17 @@ impl Checker {
         debug_assert!(domain::holds(&probe.call), "{:?} is out of the domain", probe.call);
         let mut rng = Rng::new(probe.seed);
         let live = self.live(probe.call, probe.on, &mut rng)?;
+        if probe.cuts == Cuts::Once {
+            return self.once(live);
+        }
         self.whole(&live, &mut rng)?;
         let accesses = live.log.len() / 2;
         match probe.cuts {
-            Cuts::Whole => Ok(()),
+            Cuts::Once | Cuts::Whole => Ok(()),
             Cuts::Every if accesses <= self.limits.every => self.every_cut(&live),
-            Cuts::Every => self.random_cuts(&live, self.limits.cuts, &mut rng),
-            Cuts::Random(count) => self.random_cuts(&live, count, &mut rng),
+            Cuts::Every => self.random_cuts(&live, 0, self.limits.cuts, &mut rng),
+            Cuts::Random(count) => self.random_cuts(&live, 0, count, &mut rng),
+            Cuts::Late(count) => self.random_cuts(&live, live.log.len() / 16 * 15, count, &mut rng),
         }
     }
 
@@ -103,7 +121,7 @@ impl Checker {
     fn compare(&mut self, case: Case) -> Result<oracle::Ran, Box<Found>> {
         match self.sides.run(&case) {
             Ok(ran) => {
-                self.tally.count(&case.call, &ran.ended);
+                self.tally.count(&case, &ran.ended);
                 Ok(ran)
             }
             Err(failure) => Err(Box::new(Found { case, failure })),
@@ -111,16 +129,24 @@ impl Checker {
     }
 
     fn live(&mut self, call: Call, on: On, rng: &mut Rng) -> Result<Live, Box<Found>> {
-        match self.sides.live(&call, on.source(rng)) {
+        let room = on.room();
+        match self.sides.live(&call, on.source(rng), room) {
             Ok(ran) => {
                 self.tally.observe(Kind::of(&call), &observe(&ran.log));
                 let mut list = oracle::replies(&ran.log);
                 let reads = list.len();
                 list.extend((0..rng.index(4)).map(|_| rng.word()));
-                Ok(Live { call, log: ran.log, list: list.into(), reads })
+                Ok(Live { call, log: ran.log, list: list.into(), reads, seed: rng.next() })
             }
             Err(failure) => Err(Box::new(Found { case: Case::empty(call), failure })),
         }
+    }
+
+    /// The run with a little more than it needs. Its log is let go first: a long one is made three times otherwise.
+    fn once(&mut self, mut live: Live) -> Result<(), Box<Found>> {
+        let room = std::mem::take(&mut live.log).len() + 1;
+        self.compare(live.cut(live.list.len(), room))?;
+        Ok(())
     }
 
     /// The run with just what it needs, and with more; once where there is no log that it could need.
@@ -147,17 +173,19 @@ impl Checker {
         Ok(())
     }
 
-    fn random_cuts(&mut self, live: &Live, count: usize, rng: &mut Rng) -> Result<(), Box<Found>> {
+    /// Cuts at random places from the log word `begin` on.
+    fn random_cuts(&mut self, live: &Live, begin: usize, count: usize, rng: &mut Rng) -> Result<(), Box<Found>> {
         if live.log.is_empty() {
             return Ok(());
         }
+        let reads = live.reads_before(begin / 2);
         for _ in 0..count {
-            let room = rng.index(live.log.len());
+            let room = begin + rng.index(live.log.len() - begin);
             let case = match rng.index(4) {
                 0 => live.cut(live.list.len(), room),
-                1 => live.cut(rng.index(live.reads + 1), live.log.len()),
+                1 => live.cut(reads + rng.index(live.reads - reads + 1), live.log.len()),
                 2 => live.cut_both(room / 2, room % 2),
-                _ => live.cut(rng.index(live.list.len() + 1), room),
+                _ => live.cut(reads + rng.index(live.list.len() - reads + 1), room),
             };
             self.compare(case)?;
         }
@@ -172,13 +200,17 @@ impl Checker {
 
 impl Live {
     fn cut(&self, given: usize, room: usize) -> Case {
-        Case { call: self.call.clone(), replies: Rc::clone(&self.list), given, room }
+        let junk = Rng::new(self.seed ^ (given as u64) << 32 ^ room as u64).next();
+        Case { call: self.call.clone(), replies: Rc::clone(&self.list), given, room, junk: Junk::new(junk) }
     }
 
     /// Replies and room end at the same access, the room with `odd` words more: 24 is tested before 23.
     fn cut_both(&self, access: usize, odd: usize) -> Case {
-        let before = &self.log[..2 * access];
-        let reads = before.chunks_exact(2).filter(|access| access[0] >= 0x100).count();
-        self.cut(reads, 2 * access + odd)
+        self.cut(self.reads_before(access), 2 * access + odd)
+    }
+
+    /// How many of the first accesses are reads.
+    fn reads_before(&self, access: usize) -> usize {
+        self.log[..2 * access].chunks_exact(2).filter(|access| access[0] >= 0x100).count()
     }
 }

@@ -1,13 +1,14 @@
 //! A comparison from its first sweep to its tables.
 
 use crate::check::{Checker, Found, Limits};
-use crate::inputs::{self, Scale, Sweep};
+use crate::inputs::{self, Scale, Sweep, Swept};
 use crate::kind::Kind;
 use crate::mutants::Mutant;
 use crate::options::Options;
 use crate::rng::Rng;
 use crate::shrink::shrink;
 use crate::sides::{Case, Failure};
+use call::Call;
 use std::process::ExitCode;
 use std::time::Instant;
 
@@ -47,20 +48,26 @@ impl<'a> Comparison<'a> {
 
     pub fn run(&mut self) -> Result<(), Box<Found>> {
         for &kind in &self.options.kinds {
-            self.sweep(kind)?;
+            self.sweep(kind, 0, inputs::sweep)?;
         }
+        self.long()?;
         self.random()
     }
 
-    fn sweep(&mut self, kind: Kind) -> Result<(), Box<Found>> {
-        let rng = rng_of(self.options.seed, kind, 0);
+    /// The long calls of each kind.
+    pub fn long(&mut self) -> Result<(), Box<Found>> {
+        self.options.kinds.iter().try_for_each(|&kind| self.sweep(kind, 2, inputs::long))
+    }
+
+    fn sweep(&mut self, kind: Kind, part: u64, sweep: fn(Kind, &mut Sweep<'_>) -> Swept) -> Swept {
+        let rng = rng_of(self.options.seed, kind, part);
         let scale = self.options.scale;
         let mut visit = |probe| {
             self.checker.probe(probe)?;
             self.progress();
             Ok(())
         };
-        inputs::sweep(kind, &mut Sweep::new(scale, rng, &mut visit))
+        sweep(kind, &mut Sweep::new(scale, rng, &mut visit))
     }
 
     fn random(&mut self) -> Result<(), Box<Found>> {
@@ -112,16 +119,34 @@ fn report(checker: &mut Checker, found: Found) -> ExitCode {
     }
 }
 
+/// Replies and bytes of data that are shown of a long case.
+const SHOWN: usize = 200;
+
 fn describe(case: &Case) -> String {
-    let replies: Vec<String> = case.given().iter().map(|reply| format!("{reply:X}")).collect();
     format!(
-        "  kind    {}\n  call    {:X?}\n  room    {} log words\n  replies {} [{}]\n",
+        "  kind    {}\n  call    {}\n  room    {} log words\n  replies {} {}\n  junk    {:X?}\n",
         Kind::of(&case.call).name(),
-        case.call,
+        shown(&case.call),
         case.room,
-        replies.len(),
-        replies.join(", ")
+        case.given,
+        some(case.given()),
+        case.junk
     )
+}
+
+fn shown(call: &Call) -> String {
+    match call {
+        Call::WritePages { addr, data } => {
+            format!("WritePages {{ addr: {addr:X}, data: {} bytes {} }}", data.len(), some(data))
+        }
+        call => format!("{call:X?}"),
+    }
+}
+
+/// The first numbers of a list.
+fn some<T: std::fmt::UpperHex>(list: &[T]) -> String {
+    let shown: Vec<String> = list.iter().take(SHOWN).map(|number| format!("{number:X}")).collect();
+    format!("[{}{}]", shown.join(", "), if list.len() > SHOWN { ", .." } else { "" })
 }
 
 /// The answers and turns that were seen; where all kinds ran, none may be missing.

@@ -3,7 +3,7 @@
 
 use crate::rng::Rng;
 use recorder::Source;
-use std::collections::VecDeque;
+use std::collections::{BTreeMap, VecDeque};
 
 const CONFIG: u32 = 0x00;
 const INTERRUPT_STATUS: u32 = 0x04;
@@ -34,12 +34,16 @@ pub struct Knobs {
     pub waiting: usize,
     /// Chance in percent that a released word goes out before an access, and then the next one too.
     pub pace: u32,
-    /// A program or erase shows busy for up to so many status reads.
-    pub busy: u32,
+    /// A program or erase shows busy for so many status reads: at least, and at most.
+    pub busy: (u32, u32),
     /// Chance in percent that a program or erase ends in an error.
     pub fault: u32,
+    /// The program or erase with this number, from 0 on, ends in its error whatever the chance is.
+    pub faulty: Option<u32>,
     /// Chance in percent that a status read hides a waiting word: of two reads in a row the second may then lack it.
     pub flicker: u32,
+    /// The first words wait hidden for so many interrupt status reads.
+    pub late: u32,
     /// The controller's config register at the start.
     pub config: u32,
     pub status: u8,
@@ -47,6 +51,8 @@ pub struct Knobs {
     pub ids: [u8; 8],
     /// Reads that are answered before the replies end.
     pub reads: usize,
+    /// Log words of a live run: enough for most, and an end for one that polls for ever.
+    pub room: usize,
 }
 
 impl Knobs {
@@ -55,14 +61,17 @@ impl Knobs {
         Knobs {
             waiting: 0,
             pace: 100,
-            busy: 0,
+            busy: (0, 0),
             fault: 0,
+            faulty: None,
             flicker: 0,
+            late: 0,
             config: IDLE_CONFIG,
             status: 0,
             config_register: 0,
             ids: [0x01, 0x02, 0x19, 0x4D, 0x01, 0x80, b'R', b'0'],
             reads: 1 << 17,
+            room: 1 << 16,
         }
     }
 
@@ -71,15 +80,23 @@ impl Knobs {
         Knobs {
             waiting: if rng.chance(30) { rng.index(6) } else { 0 },
             pace: rng.pick(&[100, 100, 90, 60, 30]),
-            busy: rng.pick(&[0, 0, 1, 3, 9]),
+            busy: (0, rng.pick(&[0, 0, 1, 3, 9])),
             fault: rng.pick(&[0, 0, 0, 20, 100]),
+            faulty: None,
             flicker: rng.pick(&[0, 0, 10, 40]),
+            late: 0,
             config: if rng.chance(80) { IDLE_CONFIG } else { rng.word() },
             status: if rng.flag() { 0 } else { rng.byte() & !(BUSY | ERASE_ERROR | PROGRAM_ERROR) },
             config_register: rng.byte(),
             ids: drawn_ids(rng),
             reads: 1 << 17,
+            room: 1 << 16,
         }
+    }
+
+    /// The same device for a long call.
+    pub fn lasting(self) -> Self {
+        Knobs { reads: usize::MAX, room: 1 << 28, ..self }
     }
 }
 
@@ -102,26 +119,19 @@ enum Work {
     Erase { addr: u32 },
 }
 
-/// A page that is no longer as at the start.
-#[derive(Clone, Debug)]
-struct Page {
-    number: u32,
-    bytes: [u8; 256],
-}
-
 /// The array: at the start each byte follows from its address, so that nothing has to be stored.
 #[derive(Clone, Debug, Default)]
 struct Array {
-    pages: Vec<Page>,
+    /// The pages that are no longer as at the start.
+    pages: BTreeMap<u32, [u8; 256]>,
     erased_sectors: Vec<u32>,
 }
 
 impl Array {
     fn byte(&self, addr: u32) -> u8 {
         let addr = addr & 0x00FF_FFFF;
-        let number = addr >> 8;
-        match self.pages.iter().find(|page| page.number == number) {
-            Some(page) => page.bytes[addr as usize % 256],
+        match self.pages.get(&(addr >> 8)) {
+            Some(bytes) => bytes[addr as usize % 256],
             None => self.untouched(addr),
         }
     }
@@ -133,22 +143,16 @@ impl Array {
     /// Old AND new, within the page.
     fn program(&mut self, addr: u32, data: &[u8]) {
         let number = (addr & 0x00FF_FFFF) >> 8;
-        let at = match self.pages.iter().position(|page| page.number == number) {
-            Some(at) => at,
-            None => {
-                let bytes = std::array::from_fn(|i| self.untouched(number << 8 | i as u32));
-                self.pages.push(Page { number, bytes });
-                self.pages.len() - 1
-            }
-        };
+        let untouched = std::array::from_fn(|i| self.untouched(number << 8 | i as u32));
+        let bytes = self.pages.entry(number).or_insert(untouched);
         for (i, byte) in data.iter().enumerate() {
-            self.pages[at].bytes[(addr as usize + i) % 256] &= byte;
+            bytes[(addr as usize + i) % 256] &= byte;
         }
     }
 
     fn erase(&mut self, addr: u32) {
         let sector = (addr & 0x00FF_FFFF) >> 16;
-        self.pages.retain(|page| page.number / SECTOR_PAGES != sector);
+        self.pages.retain(|number, _| number / SECTOR_PAGES != sector);
         self.erased_sectors.push(sector);
     }
 }
@@ -166,6 +170,8 @@ struct Flash {
     busy_reads: u32,
     /// Error bits at the work's end.
     fault: u8,
+    /// Programs and erases that were begun.
+    works: u32,
     /// Bytes that came since chip select fell.
     command: Vec<u8>,
 }
@@ -266,9 +272,10 @@ impl Flash {
             Work::Erase { .. } => ERASE_ERROR,
         };
         self.latch = false;
-        self.busy_reads = rng.between(0, knobs.busy);
+        self.busy_reads = rng.between(knobs.busy.0, knobs.busy.1);
         self.fault = 0;
-        if rng.chance(knobs.fault) {
+        self.works += 1;
+        if knobs.faulty == Some(self.works - 1) || rng.chance(knobs.fault) {
             self.fault = own;
         } else if rng.chance(knobs.fault) {
             self.status |= own ^ (PROGRAM_ERROR | ERASE_ERROR);
@@ -302,6 +309,8 @@ pub struct Device {
     /// Words of `tx` that a start released.
     released: usize,
     rx: VecDeque<u32>,
+    /// Status reads that will hide a waiting word.
+    late: u32,
     reads: usize,
 }
 
@@ -316,6 +325,7 @@ impl Device {
             work: None,
             busy_reads: 0,
             fault: 0,
+            works: 0,
             command: Vec::new(),
         };
         Device {
@@ -323,6 +333,7 @@ impl Device {
             tx: VecDeque::new(),
             released: 0,
             config: knobs.config,
+            late: knobs.late,
             reads: 0,
             flash,
             rng,
@@ -373,7 +384,9 @@ impl Device {
     }
 
     fn interrupt_status(&mut self) -> u32 {
-        let waits = !self.rx.is_empty() && !self.rng.chance(self.knobs.flicker);
+        let late = !self.rx.is_empty() && self.late > 0;
+        self.late -= u32::from(late);
+        let waits = !self.rx.is_empty() && !late && !self.rng.chance(self.knobs.flicker);
         let other = self.rng.word() & !RX_WAITS;
         other | if waits { RX_WAITS } else { 0 }
     }
@@ -458,7 +471,7 @@ mod tests {
 
     #[test]
     fn an_error_ends_in_its_refusal_and_is_cleared() {
-        let knobs = Knobs { fault: 100, busy: 2, ..Knobs::plain() };
+        let knobs = Knobs { fault: 100, busy: (0, 2), ..Knobs::plain() };
         let ran = driver::run(
             &Call::Program { addr: 0, data: vec![0; 8] },
             Box::new(Device::new(knobs, Rng::new(5))),

@@ -7,6 +7,7 @@ mod comparison;
 mod device;
 mod domain;
 mod inputs;
+mod junk;
 mod kind;
 mod mutants;
 mod noise;

@@ -5,9 +5,6 @@ use call::{Call, Ended};
 use recorder::Source;
 use std::rc::Rc;
 
-/// Room for a live run, in log words: enough for every call that is generated, and an end for one that polls for ever.
-const LIVE_ROOM: usize = 1 << 16;
-
 /// A run of the Rust.
 #[derive(Debug)]
 pub struct Ran {
@@ -37,9 +34,9 @@ impl Source for Given {
     }
 }
 
-/// Runs on a device or on noise.
-pub fn live(call: &Call, source: Box<dyn Source>, buffer: &mut [u8]) -> Result<Ran, Panicked> {
-    ran(call, source, LIVE_ROOM, buffer)
+/// Runs on a device or on noise, with `room` log words.
+pub fn live(call: &Call, source: Box<dyn Source>, room: usize, buffer: &mut [u8]) -> Result<Ran, Panicked> {
+    ran(call, source, room, buffer)
 }
 
 /// Runs on the first `given` replies of a list.

@@ -1,10 +1,12 @@
 //! Runs a call on the port.
 
+use crate::junk::Junk;
 use call::{Call, Ended};
 use qspi::{Clocks, IdRan, LongIdRan, PagesRan, Ran, ValueRan};
 
 /// Runs `call` over replies and a log. A read goes into `buffer`, which has the read's length.
-pub fn run(call: &Call, replies: &[u32], log: &mut [u32], buffer: &mut [u8]) -> Ended {
+pub fn run(call: &Call, replies: &[u32], log: &mut [u32], buffer: &mut [u8], junk: Junk) -> Ended {
+    let (replies, log, buffer) = (junk.lent(replies), junk.lent_mut(log), junk.lent_mut(buffer));
     match *call {
         Call::Calculate { src_sel, clocks, target_ref, target_interface } => {
             clock_config(qspi::calculate(src_sel, hertz(clocks), target_ref, target_interface))
@@ -16,12 +18,18 @@ pub fn run(call: &Call, replies: &[u32], log: &mut [u32], buffer: &mut [u8]) -> 
             let preset = qspi::linear_mode_config(micron, operating_mode, two_devices);
             ended(preset.answer, vec![preset.value], 0, 0)
         }
+        Call::Initialize { src_sel, ref_clk_div, baud_rate_div: None, phase, polarity } => {
+            value(raw::initialize_with_loopback(src_sel, ref_clk_div, phase, polarity, replies, log, junk))
+        }
         Call::Initialize { src_sel, ref_clk_div, baud_rate_div, phase, polarity } => {
             value(qspi::initialize(src_sel, ref_clk_div, baud_rate_div, phase, polarity, replies, log))
         }
         Call::EnableLinearAddressing { config } => plain(qspi::enable_linear_addressing(config, replies, log)),
         Call::EnableIoMode { dual_flash } => plain(qspi::enable_io_mode(dual_flash, replies, log)),
         Call::Disable => plain(qspi::disable(replies, log)),
+        Call::New { set_quad, latency: None, clear_protection } => {
+            plain(raw::new_without_latency(set_quad, clear_protection, replies, log, junk))
+        }
         Call::New { set_quad, latency, clear_protection } => {
             plain(qspi::new(set_quad, latency, clear_protection, replies, log))
         }
@@ -37,8 +45,8 @@ pub fn run(call: &Call, replies: &[u32], log: &mut [u32], buffer: &mut [u8]) -> 
         Call::ReadRdidBase => id(qspi::read_rdid_base(replies, log)),
         Call::ReadRdidExtended => long_id(qspi::read_rdid_extended(replies, log)),
         Call::EraseSector { addr } => plain(qspi::erase_sector(addr, replies, log)),
-        Call::Program { addr, ref data } => plain(qspi::program(addr, data, replies, log)),
-        Call::WritePages { addr, ref data } => pages(qspi::write_pages(addr, data, replies, log)),
+        Call::Program { addr, ref data } => plain(qspi::program(addr, junk.lent(data), replies, log)),
+        Call::WritePages { addr, ref data } => pages(qspi::write_pages(addr, junk.lent(data), replies, log)),
         Call::ReadPageRead { addr, .. } => plain(qspi::read_page_read(addr, buffer, replies, log)),
         Call::ReadFastRead { addr, dummy_byte, .. } => {
             plain(qspi::read_fast_read(addr, dummy_byte, buffer, replies, log))
@@ -106,4 +114,93 @@ fn long_id(ran: LongIdRan) -> Ended {
         ran.model_number,
     ];
     ended(ran.answer, values, ran.used, ran.replies)
+}
+
+/// The two functions with an argument that is not looked at: the bindings always hand on 0 there, a C program anything.
+mod raw {
+    use crate::junk::Junk;
+    use qspi::{Ran, ValueRan};
+
+    #[repr(C)]
+    struct RawRan {
+        answer: u32,
+        used: usize,
+        replies: usize,
+    }
+
+    #[repr(C)]
+    struct RawValueRan {
+        answer: u32,
+        value: u32,
+        used: usize,
+        replies: usize,
+    }
+
+    // As in include/qspi.h.
+    unsafe extern "C" {
+        fn qspi_new(
+            set_quad_bit_if_necessary: bool,
+            set_latency: bool,
+            latency: u8,
+            clear_write_protection: bool,
+            replies: *const u32,
+            replies_len: usize,
+            log: *mut u32,
+            log_len: usize,
+        ) -> RawRan;
+        fn qspi_initialize(
+            src_sel: u8,
+            ref_clk_div: u8,
+            loopback: bool,
+            baud_rate_div: u8,
+            phase: bool,
+            polarity: bool,
+            replies: *const u32,
+            replies_len: usize,
+            log: *mut u32,
+            log_len: usize,
+        ) -> RawValueRan;
+    }
+
+    /// `qspi_new` with any latency where none is asked for.
+    pub fn new_without_latency(
+        set_quad: bool,
+        clear_protection: bool,
+        replies: &[u32],
+        log: &mut [u32],
+        junk: Junk,
+    ) -> Ran {
+        if junk.latency() == 0 {
+            return qspi::new(set_quad, None, clear_protection, replies, log);
+        }
+        let (given, room) = (replies.len(), log.len());
+        // SAFETY: every pointer comes from a slice with its length, and no mutable slice overlaps another.
+        let RawRan { answer, used, replies } = unsafe {
+            let (replies, log) = (replies.as_ptr(), log.as_mut_ptr());
+            qspi_new(set_quad, false, junk.latency(), clear_protection, replies, given, log, room)
+        };
+        Ran { answer, used, replies }
+    }
+
+    /// `qspi_initialize` with loopback and any code of the divisor.
+    pub fn initialize_with_loopback(
+        src_sel: u8,
+        ref_clk_div: u8,
+        phase: bool,
+        polarity: bool,
+        replies: &[u32],
+        log: &mut [u32],
+        junk: Junk,
+    ) -> ValueRan {
+        if junk.baud_rate_div() == 0 {
+            return qspi::initialize(src_sel, ref_clk_div, None, phase, polarity, replies, log);
+        }
+        let (code, given, room) = (junk.baud_rate_div(), replies.len(), log.len());
+        // SAFETY: every pointer comes from a slice with its length, and no mutable slice overlaps another.
+        let RawValueRan { answer, value, used, replies } = unsafe {
+            let (replies, log) = (replies.as_ptr(), log.as_mut_ptr());
+            qspi_initialize(src_sel, ref_clk_div, true, code, phase, polarity, replies, given, log, room)
+        };
+        ValueRan { answer, value, used, replies }
+    }
 }

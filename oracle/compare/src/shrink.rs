@@ -2,6 +2,7 @@
 
 use crate::check::{Checker, Found};
 use crate::domain;
+use crate::junk::Junk;
 use crate::sides::{Case, Failure};
 use call::{Call, Clocks};
 
@@ -24,6 +25,9 @@ struct Search<'a> {
 impl Search<'_> {
     /// Makes the case smaller in each way; says whether one of them worked.
     fn pass(&mut self) -> bool {
+        if !self.affords(&self.best.case) {
+            return false;
+        }
         let fewer_replies = numbers(self.best.case.given).into_iter().any(|given| {
             let case = &self.best.case;
             self.improves(Case { given, replies: case.replies[..given].into(), ..case.clone() })
@@ -36,7 +40,17 @@ impl Search<'_> {
             let case = self.best.case.clone();
             domain::holds(&call) && self.improves(Case { call, ..case })
         });
-        fewer_replies | less_room | smaller_call || self.simpler_replies()
+        fewer_replies | less_room | smaller_call | self.less_junk() || self.simpler_replies()
+    }
+
+    fn less_junk(&mut self) -> bool {
+        let case = Case { junk: Junk::default(), ..self.best.case.clone() };
+        case != self.best.case && self.improves(case)
+    }
+
+    /// A run like this one can still be made.
+    fn affords(&self, case: &Case) -> bool {
+        case.given + case.room < self.budget
     }
 
     /// Takes the case if it fails too.
@@ -58,6 +72,9 @@ impl Search<'_> {
     fn simpler_replies(&mut self) -> bool {
         let mut simpler = false;
         for place in 0..self.best.case.given {
+            if !self.affords(&self.best.case) {
+                return simpler;
+            }
             let reply = self.best.case.replies[place];
             for simple in [0, reply & 0x10, reply & 0xFF00_0000] {
                 if simple.count_ones() < reply.count_ones() {

@@ -1,9 +1,11 @@
 //! One run on both sides, and all that is compared of it.
 
+use crate::junk::Junk;
 use crate::mutants::Mutant;
 use crate::oracle::{self, Panicked};
 use crate::port;
 use call::{Call, Ended};
+use recorder::Source;
 use std::fmt;
 use std::rc::Rc;
 
@@ -20,12 +22,13 @@ pub struct Case {
     pub given: usize,
     /// Log words.
     pub room: usize,
+    pub junk: Junk,
 }
 
 impl Case {
     /// Without replies and room.
     pub fn empty(call: Call) -> Self {
-        Case { call, replies: Rc::new([]), given: 0, room: 0 }
+        Case { call, replies: Rc::new([]), given: 0, room: 0, junk: Junk::default() }
     }
 
     pub fn given(&self) -> &[u32] {
@@ -66,12 +69,14 @@ pub struct Outcome {
     guarded_log: Vec<u32>,
     /// The buffer between guards.
     guarded_buffer: Vec<u8>,
+    /// What both held before.
+    junk: Junk,
 }
 
 impl Outcome {
     pub fn empty() -> Self {
         let ended = Ended { answer: 0, values: Vec::new(), used: 0, replies: 0, programmed: 0 };
-        Outcome { ended, guarded_log: Vec::new(), guarded_buffer: Vec::new() }
+        Outcome { ended, guarded_log: Vec::new(), guarded_buffer: Vec::new(), junk: Junk::default() }
     }
 
     /// The log that was lent.
@@ -97,43 +102,30 @@ impl Outcome {
     }
 
     /// Runs the port on memory that is as before.
-    pub fn run(&mut self, call: &Call, replies: &[u32], room: usize) {
+    pub fn run(&mut self, call: &Call, replies: &[u32], room: usize, junk: Junk) {
         let length = read_length(call);
-        self.prepare(room, length);
+        self.junk = junk;
+        fill(&mut self.guarded_log, room + 2 * GUARD_WORDS, |place| junk.word(place));
+        fill(&mut self.guarded_buffer, length + 2 * GUARD_BYTES, |place| junk.byte(place));
         let log = &mut self.guarded_log[GUARD_WORDS..GUARD_WORDS + room];
         let buffer = &mut self.guarded_buffer[GUARD_BYTES..GUARD_BYTES + length];
-        self.ended = port::run(call, replies, log, buffer);
+        self.ended = port::run(call, replies, log, buffer, junk);
     }
 
-    fn prepare(&mut self, room: usize, length: usize) {
-        fill(&mut self.guarded_log, room + 2 * GUARD_WORDS, log_pattern);
-        fill(&mut self.guarded_buffer, length + 2 * GUARD_BYTES, byte_pattern);
+    /// What a lent log word held before.
+    pub fn word_before(&self, place: usize) -> u32 {
+        self.junk.word(place + GUARD_WORDS)
+    }
+
+    /// What a lent buffer byte held before.
+    pub fn byte_before(&self, place: usize) -> u8 {
+        self.junk.byte(place + GUARD_BYTES)
     }
 }
 
-fn fill<T>(list: &mut Vec<T>, length: usize, pattern: fn(usize) -> T) {
+fn fill<T>(list: &mut Vec<T>, length: usize, pattern: impl Fn(usize) -> T) {
     list.clear();
     list.extend((0..length).map(pattern));
-}
-
-/// What a word of the log holds before a run; `place` counts from the guard on.
-fn log_pattern(place: usize) -> u32 {
-    0xA5A5_5A5A ^ (place as u32).wrapping_mul(0x9E37_79B9)
-}
-
-/// What a byte of the buffer holds before a run.
-fn byte_pattern(place: usize) -> u8 {
-    0x5A ^ (place as u8).wrapping_mul(0x1D)
-}
-
-/// What a lent log word held before.
-pub fn log_before(place: usize) -> u32 {
-    log_pattern(place + GUARD_WORDS)
-}
-
-/// What a lent buffer byte held before.
-pub fn byte_before(place: usize) -> u8 {
-    byte_pattern(place + GUARD_BYTES)
 }
 
 /// The bytes that a call reads.
@@ -145,8 +137,8 @@ pub fn read_length(call: &Call) -> usize {
 }
 
 /// A buffer for the Rust, filled and guarded like the port's.
-fn guarded_buffer(buffer: &mut Vec<u8>, length: usize) -> &mut [u8] {
-    fill(buffer, length + 2 * GUARD_BYTES, byte_pattern);
+fn guarded_buffer(buffer: &mut Vec<u8>, length: usize, junk: Junk) -> &mut [u8] {
+    fill(buffer, length + 2 * GUARD_BYTES, |place| junk.byte(place));
     &mut buffer[GUARD_BYTES..GUARD_BYTES + length]
 }
 
@@ -163,17 +155,17 @@ impl Sides {
         Sides { mutant, outcome: Outcome::empty(), oracle_buffer: Vec::new() }
     }
 
-    /// Runs the Rust live.
-    pub fn live(&mut self, call: &Call, source: Box<dyn recorder::Source>) -> Result<oracle::Ran, Failure> {
-        let buffer = guarded_buffer(&mut self.oracle_buffer, read_length(call));
-        oracle::live(call, source, buffer).map_err(Failure::Panicked)
+    /// Runs the Rust live, with `room` log words.
+    pub fn live(&mut self, call: &Call, source: Box<dyn Source>, room: usize) -> Result<oracle::Ran, Failure> {
+        let buffer = guarded_buffer(&mut self.oracle_buffer, read_length(call), Junk::default());
+        oracle::live(call, source, room, buffer).map_err(Failure::Panicked)
     }
 
     /// Runs both sides and compares everything. The port goes first and the Rust takes the same data and replies from the same
     /// memory, so that a port which changes what it may only read is seen as well.
     pub fn run(&mut self, case: &Case) -> Result<oracle::Ran, Failure> {
         self.run_port(case);
-        let buffer = guarded_buffer(&mut self.oracle_buffer, read_length(&case.call));
+        let buffer = guarded_buffer(&mut self.oracle_buffer, read_length(&case.call), case.junk);
         let ran =
             oracle::replay(&case.call, &case.replies, case.given, case.room, buffer).map_err(Failure::Panicked)?;
         match self.difference(&ran) {
@@ -184,9 +176,9 @@ impl Sides {
 
     fn run_port(&mut self, case: &Case) {
         match self.mutant {
-            None => self.outcome.run(&case.call, case.given(), case.room),
+            None => self.outcome.run(&case.call, case.given(), case.room, case.junk),
             Some(mutant) => {
-                self.outcome.run(&(mutant.input)(&case.call), case.given(), case.room);
+                self.outcome.run(&(mutant.input)(&case.call), case.given(), case.room, case.junk);
                 (mutant.outcome)(case, &mut self.outcome);
             }
         }
@@ -194,7 +186,7 @@ impl Sides {
 
     fn difference(&self, ran: &oracle::Ran) -> Option<Difference> {
         ended_difference(&ran.ended, &self.outcome.ended)
-            .or_else(|| log_difference(&ran.log, &self.outcome.guarded_log))
+            .or_else(|| log_difference(&ran.log, &self.outcome.guarded_log, self.outcome.junk))
             .or_else(|| buffer_difference(&self.oracle_buffer, &self.outcome.guarded_buffer))
     }
 }
@@ -220,15 +212,15 @@ fn ended_difference(oracle: &Ended, port: &Ended) -> Option<Difference> {
 }
 
 /// The Rust's words, and around them what was there before.
-fn log_difference(oracle: &[u32], guarded: &[u32]) -> Option<Difference> {
+fn log_difference(oracle: &[u32], guarded: &[u32], junk: Junk) -> Option<Difference> {
     let used = GUARD_WORDS..GUARD_WORDS + oracle.len();
-    let kept = |place: usize| guarded[place] == log_pattern(place);
+    let kept = |place: usize| guarded[place] == junk.word(place);
     if guarded.get(used.clone()) == Some(oracle) && (0..used.start).all(kept) && (used.end..guarded.len()).all(kept) {
         return None;
     }
     let expected = |place: usize| {
         let inside = place.checked_sub(GUARD_WORDS).and_then(|at| oracle.get(at));
-        inside.copied().unwrap_or_else(|| log_pattern(place))
+        inside.copied().unwrap_or_else(|| junk.word(place))
     };
     let place = (0..guarded.len()).find(|&place| guarded[place] != expected(place))?;
     let at = place as isize - GUARD_WORDS as isize;

@@ -1,7 +1,9 @@
 //! Counts of runs, and what must have been seen.
 
+use crate::inputs::{LARGEST_SAVE, LONG};
 use crate::kind::Kind;
 use crate::observe::Observed;
+use crate::sides::Case;
 use call::{Call, Ended};
 use std::fmt::Write;
 
@@ -48,6 +50,26 @@ marks! {
     Density11 = "11 for the density",
     SectorArch11 = "11 for the sector architecture",
     Listed = "every id code listed",
+    LongSave = "a save of 70,000 bytes",
+    LargestSave = "the save of 16,777,212 bytes",
+    NotAlignedLate = "4 after more than 65,536 bytes",
+    FailedLate = "22 after more than 65,536 bytes",
+    StoppedLate = "23 or 24 after more than 65,536 bytes",
+    LongRead = "a read of 70,000 bytes",
+    LongFastRead = "a fast read of 70,000 bytes",
+    LongDummyRead = "a fast read of 70,000 bytes with a dummy byte",
+    LargestRead = "a read of more than 16,777,216 bytes",
+    LargestFastRead = "a fast read of more than 16,777,216 bytes",
+    LargestDummyRead = "a fast read of more than 16,777,216 bytes with a dummy byte",
+    ManyDrains = "70,000 waiting words drained",
+    ManyWaits = "70,000 status reads without a word",
+    ManyPolls = "70,000 busy polls",
+    JunkLatency = "a latency above 3 that is not looked at",
+    JunkCode = "a baud rate code beside loopback",
+    EmptyReplies = "empty replies without memory",
+    EmptyLog = "an empty log without memory",
+    EmptyData = "empty data without memory",
+    EmptyBuffer = "an empty buffer without memory",
 }
 
 /// What was run and seen.
@@ -73,14 +95,16 @@ impl Tally {
     }
 
     /// Counts a run that was compared.
-    pub fn count(&mut self, call: &Call, ended: &Ended) {
-        let kind = Kind::of(call);
+    pub fn count(&mut self, case: &Case, ended: &Ended) {
+        let kind = Kind::of(&case.call);
         self.runs[kind.index()] += 1;
         if let Some(count) = self.answers[kind.index()].get_mut(ended.answer as usize) {
             *count += 1;
         }
-        self.mark_chunks(call, ended);
+        self.mark_chunks(&case.call, ended);
         self.mark_ids(ended);
+        self.mark_long(&case.call, ended);
+        self.mark_junk(case);
     }
 
     /// Notes the turns that a whole run took. Status bits have a meaning where a call polls for them.
@@ -88,6 +112,9 @@ impl Tally {
         self.mark(Mark::Drain, seen.drains > 0);
         self.mark(Mark::Late, seen.waits > 0);
         self.mark(Mark::Flicker, seen.flickers > 0);
+        self.mark(Mark::ManyDrains, seen.drains >= LONG);
+        self.mark(Mark::ManyWaits, seen.waits >= LONG);
+        self.mark(Mark::ManyPolls, seen.busy >= LONG);
         match kind {
             Kind::EraseSector => {
                 self.mark(Mark::BusyErase, seen.busy > 0);
@@ -117,6 +144,48 @@ impl Tally {
             }
             _ => {}
         }
+    }
+
+    fn mark_long(&mut self, call: &Call, ended: &Ended) {
+        let late = ended.programmed > 0x1_0000;
+        match (call, ended.answer) {
+            (Call::WritePages { data, .. }, 0) => {
+                self.mark(Mark::LongSave, data.len() == LONG);
+                self.mark(Mark::LargestSave, data.len() == LARGEST_SAVE);
+            }
+            (Call::WritePages { .. }, 4) => self.mark(Mark::NotAlignedLate, late),
+            (Call::WritePages { .. }, 22) => self.mark(Mark::FailedLate, late),
+            (Call::WritePages { .. }, 23 | 24) => self.mark(Mark::StoppedLate, late),
+            (Call::ReadPageRead { length, .. }, 0) => {
+                self.mark(Mark::LongRead, *length == LONG);
+                self.mark(Mark::LargestRead, *length > 1 << 24);
+            }
+            (Call::ReadFastRead { length, dummy_byte, .. }, 0) => {
+                let (long, largest) = match *dummy_byte {
+                    false => (Mark::LongFastRead, Mark::LargestFastRead),
+                    true => (Mark::LongDummyRead, Mark::LargestDummyRead),
+                };
+                self.mark(long, *length == LONG);
+                self.mark(largest, *length > 1 << 24);
+            }
+            _ => {}
+        }
+    }
+
+    /// What was handed to the port where nothing may look.
+    fn mark_junk(&mut self, case: &Case) {
+        match &case.call {
+            Call::New { latency: None, .. } => self.mark(Mark::JunkLatency, case.junk.latency() > 3),
+            Call::Initialize { baud_rate_div: None, .. } => self.mark(Mark::JunkCode, case.junk.baud_rate_div() > 0),
+            Call::Program { data, .. } | Call::WritePages { data, .. } => self.mark(Mark::EmptyData, data.is_empty()),
+            Call::ReadPageRead { length, .. } | Call::ReadFastRead { length, .. } => {
+                self.mark(Mark::EmptyBuffer, *length == 0);
+            }
+            _ => {}
+        }
+        let logged = Kind::of(&case.call).has_log();
+        self.mark(Mark::EmptyReplies, logged && case.given == 0);
+        self.mark(Mark::EmptyLog, logged && case.room == 0);
     }
 
     fn mark_ids(&mut self, ended: &Ended) {

@@ -7,9 +7,9 @@ use crate::rng::Rng;
 use call::Call;
 
 /// One above the last byte's address.
-const ARRAY: u32 = 0x0100_0000;
+pub const ARRAY: u32 = 0x0100_0000;
 /// The last sum of address and length that is accepted.
-const RANGE_LIMIT: u32 = ARRAY - 1;
+pub const RANGE_LIMIT: u32 = ARRAY - 1;
 const SECTOR: u32 = 0x1_0000;
 
 /// Sizes that the driver knows, and multiples of them.
@@ -75,7 +75,14 @@ fn span(sweep: &mut Sweep<'_>, call: Call, length: usize) -> Swept {
 }
 
 pub fn program(sweep: &mut Sweep<'_>) -> Swept {
-    spans(sweep, |addr, data| Call::Program { addr, data })
+    spans(sweep, |addr, data| Call::Program { addr, data })?;
+    // Every length up to one that is too large, at a place of its page where it fits.
+    for length in 0..=260 {
+        let addr = page(&mut sweep.rng) | 4 * sweep.rng.between(0, (256 - length.min(256)) / 4);
+        let data = sweep.rng.bytes(length as usize);
+        sweep.drawn(Call::Program { addr, data }, Cuts::Random(2))?;
+    }
+    Ok(())
 }
 
 pub fn write_pages(sweep: &mut Sweep<'_>) -> Swept {

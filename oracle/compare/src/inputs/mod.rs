@@ -2,6 +2,7 @@
 
 mod array;
 mod clocks;
+mod long;
 mod registers;
 
 use crate::check::{Cuts, Found, On, Probe};
@@ -10,6 +11,8 @@ use crate::domain;
 use crate::kind::Kind;
 use crate::rng::Rng;
 use call::Call;
+
+pub use long::{LARGEST_SAVE, LONG, long};
 
 /// What is done with a probe; the first run that is no agreement ends a sweep.
 pub type Visit<'a> = dyn FnMut(Probe) -> Result<(), Box<Found>> + 'a;

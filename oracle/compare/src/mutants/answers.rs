@@ -6,7 +6,7 @@ use super::edit::{
 use super::{Mutant, input, outcome};
 use crate::kind::Kind;
 use crate::observe::observe;
-use crate::sides::{Case, Outcome, byte_before};
+use crate::sides::{Case, Outcome};
 use call::Call;
 
 const RANGE: &[Kind] = &[Kind::EraseSector, Kind::Program, Kind::WritePages];
@@ -128,13 +128,13 @@ pub const MUTANTS: &[Mutant] = &[
     }),
     outcome("last_byte_not_written", READS, |_, o| {
         if let Some(last) = o.buffer().len().checked_sub(1) {
-            o.buffer()[last] = byte_before(last);
+            o.buffer()[last] = o.byte_before(last);
         }
     }),
     outcome("bytes_not_read_are_cleared", READS, |_, o| {
-        for (place, byte) in o.buffer().iter_mut().enumerate() {
-            if *byte == byte_before(place) {
-                *byte = 0;
+        for place in 0..o.buffer().len() {
+            if o.buffer()[place] == o.byte_before(place) {
+                o.buffer()[place] = 0;
             }
         }
     }),
@@ -143,7 +143,7 @@ pub const MUTANTS: &[Mutant] = &[
             let mut more = case.given().to_vec();
             more.push(0x10);
             let mut early = Outcome::empty();
-            early.run(&case.call, &more, case.room);
+            early.run(&case.call, &more, case.room, case.junk);
             o.buffer().copy_from_slice(early.buffer());
         }
     }),
@@ -204,7 +204,7 @@ fn accept(case: &Case, o: &mut Outcome) {
     let Some(lower) = addr(&case.call).checked_sub(0x1_0000) else {
         return;
     };
-    o.run(&with_addr(&case.call, |_| lower), case.given(), case.room);
+    o.run(&with_addr(&case.call, |_| lower), case.given(), case.room, case.junk);
     change_all(o, TX_DATA_FOUR, |word| if matches!(word & 0xFF, 0x02 | 0xD8) { word + 0x100 } else { word });
 }
 

@@ -60,7 +60,7 @@ pub const MUTANTS: &[Mutant] = &[
             if let Call::Calculate { clocks, .. } = &mut call {
                 clocks.cpu_1x_clk = 0;
             }
-            o.run(&call, &[], case.room);
+            o.run(&call, &[], case.room, case.junk);
         }
     }),
     outcome("cpu_1x_tested_with_loopback", LOOPBACK, |case, o| {

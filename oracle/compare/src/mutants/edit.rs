@@ -1,7 +1,7 @@
 //! Changes to a log that a port has left.
 
 use crate::kind::Kind;
-use crate::sides::{Case, Outcome, byte_before, log_before};
+use crate::sides::{Case, Outcome};
 
 pub const READ: u32 = 0x100;
 pub const CONFIG: u32 = 0x00;
@@ -79,8 +79,8 @@ pub fn remove(outcome: &mut Outcome, at: usize, count: usize) {
     let log = outcome.log();
     let reads = log[2 * at..2 * (at + count)].chunks_exact(2).filter(|access| access[0] >= READ).count();
     log.copy_within(2 * (at + count)..used, 2 * at);
-    for (place, word) in log.iter_mut().enumerate().take(used).skip(used - 2 * count) {
-        *word = log_before(place);
+    for place in used - 2 * count..used {
+        outcome.log()[place] = outcome.word_before(place);
     }
     outcome.ended.used -= 2 * count;
     outcome.ended.replies -= reads;
@@ -95,11 +95,11 @@ pub fn exchange(outcome: &mut Outcome, at: usize) {
 
 /// A refusal: nothing was done.
 pub fn refuse(outcome: &mut Outcome, answer: u32) {
-    for (place, word) in outcome.log().iter_mut().enumerate() {
-        *word = log_before(place);
+    for place in 0..outcome.log().len() {
+        outcome.log()[place] = outcome.word_before(place);
     }
-    for (place, byte) in outcome.buffer().iter_mut().enumerate() {
-        *byte = byte_before(place);
+    for place in 0..outcome.buffer().len() {
+        outcome.buffer()[place] = outcome.byte_before(place);
     }
     let ended = &mut outcome.ended;
     ended.answer = answer;

@@ -120,7 +120,7 @@ fn change_last_word(o: &mut Outcome, from_end: usize, change: impl Fn(u32) -> u3
 /// With more room the same replies would end the run at the same access.
 fn read_is_due(case: &Case, o: &Outcome) -> bool {
     let mut more = Outcome::empty();
-    more.run(&case.call, case.given(), case.room + 2);
+    more.run(&case.call, case.given(), case.room + 2, case.junk);
     more.ended.answer == 23 && more.ended.used == o.ended.used
 }
 

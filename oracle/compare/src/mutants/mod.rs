@@ -2,7 +2,9 @@
 
 mod answers;
 mod clocks;
+mod counters;
 mod edit;
+mod junk;
 mod log;
 mod registers;
 mod text;
@@ -23,21 +25,34 @@ pub struct Mutant {
     pub kinds: &'static [Kind],
     pub input: fn(&Call) -> Call,
     pub outcome: fn(&Case, &mut Outcome),
+    /// It is right in short calls, so that the long ones alone are tried.
+    pub long: bool,
 }
 
 /// A port that is called with other inputs.
 const fn input(name: &'static str, kinds: &'static [Kind], input: fn(&Call) -> Call) -> Mutant {
-    Mutant { name, kinds, input, outcome: |_, _| {} }
+    Mutant { name, kinds, input, outcome: |_, _| {}, long: false }
 }
 
 /// A port that leaves another outcome.
 const fn outcome(name: &'static str, kinds: &'static [Kind], outcome: fn(&Case, &mut Outcome)) -> Mutant {
-    Mutant { name, kinds, input: Call::clone, outcome }
+    Mutant { name, kinds, input: Call::clone, outcome, long: false }
+}
+
+/// A port that is called with other inputs in long calls.
+const fn long_input(name: &'static str, kinds: &'static [Kind], changed: fn(&Call) -> Call) -> Mutant {
+    Mutant { long: true, ..input(name, kinds, changed) }
+}
+
+/// A port that leaves another outcome of long calls.
+const fn long_outcome(name: &'static str, kinds: &'static [Kind], changed: fn(&Case, &mut Outcome)) -> Mutant {
+    Mutant { long: true, ..outcome(name, kinds, changed) }
 }
 
 /// All wrong ports.
 fn all() -> impl Iterator<Item = &'static Mutant> {
-    log::MUTANTS.iter().chain(registers::MUTANTS).chain(answers::MUTANTS).chain(clocks::MUTANTS)
+    let short = log::MUTANTS.iter().chain(registers::MUTANTS).chain(answers::MUTANTS).chain(clocks::MUTANTS);
+    short.chain(junk::MUTANTS).chain(counters::MUTANTS)
 }
 
 /// Tries every wrong port and every wrong driver.
@@ -81,7 +96,8 @@ fn try_port(mutant: &'static Mutant, options: &Options) -> Result<Found, Kind> {
         // Sweeps alone, so that nothing is tried which a comparison would not run.
         let options = Options { calls: 0, kinds: vec![kind], ..options.clone() };
         let mut comparison = Comparison::new(&options, Some(mutant));
-        let found = comparison.run().err().ok_or(kind)?;
+        let compared = if mutant.long { comparison.long() } else { comparison.run() };
+        let found = compared.err().ok_or(kind)?;
         if first.is_none() {
             first = Some(shrink(&mut comparison.checker, *found));
         }

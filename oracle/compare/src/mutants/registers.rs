@@ -52,7 +52,7 @@ pub const MUTANTS: &[Mutant] = &[
                     *baud_rate_div = None;
                 }
             });
-            o.run(&call, case.given(), case.room);
+            o.run(&call, case.given(), case.room, case.junk);
         }
     }),
     outcome("fifo_thresholds_exchanged", &[Kind::EnableIoMode], |_, o| {
