@@ -78,7 +78,7 @@ pub fn program(sweep: &mut Sweep<'_>) -> Swept {
     spans(sweep, |addr, data| Call::Program { addr, data })?;
     // Every length up to one that is too large, at a place of its page where it fits.
     for length in 0..=260 {
-        let addr = page(&mut sweep.rng) | 4 * sweep.rng.between(0, (256 - length.min(256)) / 4);
+        let addr = page(&mut sweep.rng) + 4 * sweep.rng.between(0, (256 - length.min(256)) / 4);
         let data = sweep.rng.bytes(length as usize);
         sweep.drawn(Call::Program { addr, data }, Cuts::Random(2))?;
     }

@@ -132,7 +132,8 @@ fn long_enough(case: &Case, modulus: usize) -> bool {
     case.room > modulus && length(&case.call) >= modulus
 }
 
-fn length(call: &Call) -> usize {
+/// The bytes of a save or a read.
+pub fn length(call: &Call) -> usize {
     match call {
         Call::WritePages { data, .. } => data.len(),
         Call::ReadPageRead { length, .. } | Call::ReadFastRead { length, .. } => *length,
@@ -199,10 +200,8 @@ fn store_byte<const M: usize>(case: &Case, o: &mut Outcome) {
     for chunk in chunks(case, o) {
         let stored = (4 * chunk.replies).saturating_sub(dropped).min(chunk_size(&case.call));
         let end = read.len().min(chunk.done + stored);
-        for place in chunk.done..end {
-            if let Some(byte) = bytes.get_mut(chunk.done % M + place - chunk.done) {
-                *byte = read[place];
-            }
+        for (byte, read) in bytes[chunk.done % M..].iter_mut().zip(&read[chunk.done..end]) {
+            *byte = *read;
         }
     }
     o.buffer().copy_from_slice(&bytes);

@@ -9,7 +9,7 @@ mod log;
 mod registers;
 mod text;
 
-use crate::check::Found;
+use crate::check::{Checker, Found};
 use crate::comparison::Comparison;
 use crate::kind::Kind;
 use crate::options::Options;
@@ -78,7 +78,7 @@ fn try_ports(options: &Options) -> (usize, usize) {
     for mutant in all() {
         tried += 1;
         match try_port(mutant, options) {
-            Ok(found) => println!("caught    {:<42} by {}: {}", mutant.name, kinds(mutant), found.failure),
+            Ok(caught) => println!("caught    {:<42} by {}{}", mutant.name, kinds(mutant), caught),
             Err(kind) => {
                 survived += 1;
                 println!("SURVIVED  {:<42} in {}", mutant.name, kind.name());
@@ -88,9 +88,9 @@ fn try_ports(options: &Options) -> (usize, usize) {
     (tried, survived)
 }
 
-/// Every kind of call that the mutant changes must catch it in its sweep. Gives the smallest case of the first kind, or the
-/// kind that does not.
-fn try_port(mutant: &'static Mutant, options: &Options) -> Result<Found, Kind> {
+/// Every kind of call that the mutant changes must catch it in its sweep. Gives the smallest case of the first kind, with the length
+/// of the long call that caught it, or the kind that does not.
+fn try_port(mutant: &'static Mutant, options: &Options) -> Result<String, Kind> {
     let mut first = None;
     for &kind in mutant.kinds {
         // Sweeps alone, so that nothing is tried which a comparison would not run.
@@ -98,11 +98,15 @@ fn try_port(mutant: &'static Mutant, options: &Options) -> Result<Found, Kind> {
         let mut comparison = Comparison::new(&options, Some(mutant));
         let compared = if mutant.long { comparison.long() } else { comparison.run() };
         let found = compared.err().ok_or(kind)?;
-        if first.is_none() {
-            first = Some(shrink(&mut comparison.checker, *found));
-        }
+        first.get_or_insert_with(|| caught(mutant, &mut comparison.checker, *found));
     }
     first.ok_or(Kind::Calculate)
+}
+
+fn caught(mutant: &Mutant, checker: &mut Checker, found: Found) -> String {
+    let length = counters::length(&found.case.call);
+    let bytes = if mutant.long && length > 0 { format!(" in {length} bytes") } else { String::new() };
+    format!("{bytes}: {}", shrink(checker, found).failure)
 }
 
 fn kinds(mutant: &Mutant) -> String {
