@@ -17,3 +17,4 @@ pub mod Registers
 pub mod ValueLaws
 pub mod Promised
 pub mod Begins
+pub mod Precisely

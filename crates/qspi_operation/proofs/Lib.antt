@@ -6,3 +6,5 @@ pub mod Rules
 pub mod PointLaws
 pub mod Following
 pub mod Orders
+pub mod Stops
+pub mod Wholes

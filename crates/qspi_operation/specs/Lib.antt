@@ -1,5 +1,6 @@
 pub mod Store
 pub mod Machine
+pub mod Whole
 pub mod Step
 pub mod Points
 pub mod Follows
