@@ -18,3 +18,5 @@ pub mod ValueLaws
 pub mod Promised
 pub mod Begins
 pub mod Precisely
+pub mod Failures
+pub mod Refusals

@@ -50,27 +50,34 @@ module _ {p : Status → Bool} where
   with-configuring d quad setLatency latency clear =
       with-perform (λ cs. with-perform (λ ss. with-either (updateNeeded quad setLatency latency clear (top cs) (top ss)) (with-update d _ _) (with-end d)))
 
-  with-cleared : p Done ≡ true → (quad setLatency : Bool) (latency : ℕ) (clear : Bool) → EndsWith p (cleared quad setLatency latency clear)
+  pub with-cleared : p Done ≡ true → (quad setLatency : Bool) (latency : ℕ) (clear : Bool) → EndsWith p (cleared quad setLatency latency clear)
   with-cleared d quad setLatency latency clear = with-perform (λ rs. with-either (quad || (setLatency || clear)) (with-configuring d quad setLatency latency clear) (with-end d))
 
-  with-protecting : p Done ≡ true → (q : ℕ) → EndsWith p (protecting q)
+  pub with-protecting : p Done ≡ true → (q : ℕ) → EndsWith p (protecting q)
   with-protecting d q = with-perform (λ ss. with-perform (λ cs. with-update d _ _))
 
-  with-reads : p Done ≡ true → (n : ℕ) (fast dummy : Bool) (a left : ℕ) → EndsWith p (call.readFrom n fast dummy a left)
+  pub with-reads : p Done ≡ true → (n : ℕ) (fast dummy : Bool) (a left : ℕ) → EndsWith p (call.readFrom n fast dummy a left)
   with-reads d zero fast dummy a left = with-end d
   with-reads d (suc n) fast dummy a zero = with-end d
   with-reads d (suc n) fast dummy a (suc left) = with-perform (λ rs. with-reads d n fast dummy _ _)
 
-  with-program : p OutOfRange ≡ true → p DataTooLarge ≡ true → p NotAligned ≡ true → p CrossesPageBoundary ≡ true → p ProgrammingErrorBitSet ≡ true
+  pub with-program : p OutOfRange ≡ true → p DataTooLarge ≡ true → p NotAligned ≡ true → p CrossesPageBoundary ≡ true → p ProgrammingErrorBitSet ≡ true
       → (a : ℕ) (bs : List ℕ) {then : Script} → EndsWith p then → EndsWith p (call.programThen a bs then)
   with-program e₁ e₃ e₄ e₅ e₂₂ a bs w =
       with-either (ltb 16777215 (a + length bs)) (with-end e₁)
       (with-either (ltb 240 (length bs)) (with-end e₃)
       (with-either (eqb (length bs % 4) 0) (with-either (ltb 256 (a % 256 + length bs)) (with-end e₅) (with-working 6 _ (programming a bs) e₂₂ w)) (with-end e₄)))
 
-  with-pages : p Done ≡ true → p OutOfRange ≡ true → p DataTooLarge ≡ true → p NotAligned ≡ true → p CrossesPageBoundary ≡ true → p ProgrammingErrorBitSet ≡ true → (l : List Chunk) → EndsWith p (call.pages l)
+  pub with-pages : p Done ≡ true → p OutOfRange ≡ true → p DataTooLarge ≡ true → p NotAligned ≡ true → p CrossesPageBoundary ≡ true → p ProgrammingErrorBitSet ≡ true → (l : List Chunk) → EndsWith p (call.pages l)
   with-pages d e₁ e₃ e₄ e₅ e₂₂ [] = with-end d
   with-pages d e₁ e₃ e₄ e₅ e₂₂ (c ∷ l) = with-program e₁ e₃ e₄ e₅ e₂₂ (c .address) (c .bytes) (with-count (with-pages d e₁ e₃ e₄ e₅ e₂₂ l))
+
+pub with-call-new : (p : Status → Bool) → p Done ≡ true → p FieldTooWide ≡ true → (c : Config) → EndsWith p (call.newCall c)
+with-call-new p d e c = go (c .«latency_config»)
+  where
+    go : (l : Latency) → EndsWith p (call.newLatency l (c .«set_quad_bit_if_necessary») (c .«clear_write_protection»))
+    go AsRead = with-cleared d (c .«set_quad_bit_if_necessary») false 0 (c .«clear_write_protection»)
+    go (Code v) = with-either (ltb 3 v) (with-end e) (with-cleared d (c .«set_quad_bit_if_necessary») true v (c .«clear_write_protection»))
 
 -- THEOREM. Every call ends by itself with 0 to 22, so that 23 and 24 come only from the replies and the room.
 pub calls-own : {c : Script} → Call c → EndsWith ownAnswer c
@@ -83,11 +90,7 @@ calls-own read-id = with-perform (λ rs. with-end refl)
 calls-own read-long-id = with-perform (λ rs. with-end refl)
 calls-own (write-status sr) = with-perform (λ rs. with-perform (λ rs. with-end refl))
 calls-own (write-registers sr cr) = with-update refl sr cr
-calls-own (new c) = go (c .«latency_config»)
-  where
-    go : (l : Latency) → EndsWith ownAnswer (call.newLatency l (c .«set_quad_bit_if_necessary») (c .«clear_write_protection»))
-    go AsRead = with-cleared refl (c .«set_quad_bit_if_necessary») false 0 (c .«clear_write_protection»)
-    go (Code v) = with-either (ltb 3 v) (with-end refl) (with-cleared refl (c .«set_quad_bit_if_necessary») true v (c .«clear_write_protection»))
+calls-own (new c) = with-call-new ownAnswer refl refl c
 calls-own (set-write-protection q) = with-either (ltb 7 q) (with-end refl) (with-protecting refl q)
 calls-own (erase-sector a) = with-either (ltb 16777215 (a + 65536)) (with-end refl) (with-either (eqb (a % 65536) 0) (with-working 5 _ (erasing a) refl (with-end refl)) (with-end refl))
 calls-own (program a bs) = with-program refl refl refl refl refl a bs (with-end refl)
@@ -176,11 +179,11 @@ module _ (room : ℕ) (replies : List ℕ) where
   past-not Q true s t n = (λ q. (refl, q), λ h. h .1)
 
   -- a refusal gives its own number alone
-  refuses-not : (s a : Status) → other a s ≡ true → other a a ≡ false → Answers (refused s) a → ⊥
+  pub refuses-not : (s a : Status) → other a s ≡ true → other a a ≡ false → Answers (refused s) a → ⊥
   refuses-not s a e f q = no (sym f ∙ (ap (other a) (sym (sym (answers-at-once s) ∙ q)) ∙ e))
 
   -- a script that ends with none but other numbers
-  never : (a : Status) {t : Script} → EndsWith (other a) t → other a RepliesEnded ≡ true → other a LogFull ≡ true → other a a ≡ false → Answers t a → ⊥
+  pub never : (a : Status) {t : Script} → EndsWith (other a) t → other a RepliesEnded ≡ true → other a LogFull ≡ true → other a a ≡ false → Answers t a → ⊥
   never a w e f g q = no (sym g ∙ (ap (other a) (sym q) ∙ answers (other a) w room replies e f))
 
   -- ---- erase_sector
@@ -237,10 +240,10 @@ module _ (room : ℕ) (replies : List ℕ) where
     past-five Q n = Iff·trans (past Q (ltb 256 (a % 256 + length bs)) CrossesPageBoundary work n) (Iff·and (not-below 256 (a % 256 + length bs)) Iff·rfl)
 
     -- what holds of a run that no rule refuses
-    pub accepted : (Q : Result → Type 0) → ((s : Status) → Q (called (refused s) room replies) → ⊥)
+    pub accepted : (Q : Result → Type 0) → (Q (called (refused OutOfRange) room replies) → ⊥) → (Q (called (refused DataTooLarge) room replies) → ⊥) → (Q (called (refused NotAligned) room replies) → ⊥)
+        → (Q (called (refused CrossesPageBoundary) room replies) → ⊥)
         → Q (called (call.program a bs) room replies) ↔ ((a + length bs ≤ 16777215) × ((length bs ≤ 240) × ((length bs % 4 ≡ 0) × ((a % 256 + length bs ≤ 256) × Q (called work room replies)))))
-    accepted Q n =
-        Iff·trans (past-one Q (n OutOfRange)) (Iff·and Iff·rfl (Iff·trans (past-three Q (n DataTooLarge)) (Iff·and Iff·rfl (Iff·trans (past-four Q (n NotAligned)) (Iff·and Iff·rfl (past-five Q (n CrossesPageBoundary)))))))
+    accepted Q n₁ n₃ n₄ n₅ = Iff·trans (past-one Q n₁) (Iff·and Iff·rfl (Iff·trans (past-three Q n₃) (Iff·and Iff·rfl (Iff·trans (past-four Q n₄) (Iff·and Iff·rfl (past-five Q n₅))))))
 
     -- 1: "address + length > 16,777,215"
     pub program-one : Answers (call.program a bs) OutOfRange ↔ (16777215 < a + length bs)

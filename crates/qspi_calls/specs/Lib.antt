@@ -5,3 +5,4 @@ pub mod Values
 pub mod Begins
 pub mod Prompt
 pub mod Promise
+pub mod Settled

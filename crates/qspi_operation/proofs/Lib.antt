@@ -8,3 +8,4 @@ pub mod Following
 pub mod Orders
 pub mod Stops
 pub mod Wholes
+pub mod Shown

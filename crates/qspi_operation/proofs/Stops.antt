@@ -46,7 +46,7 @@ logged a r (at-end e f) = at-end e f
 logged a r (no-room e f g) = no-room e f g
 logged a r (no-reply o e f g h) = no-reply o e f g h
 
-some-read : {w : Want} {o : ℕ} → w ≡ reads o → w ≡ nothing → ⊥
+pub some-read : {w : Want} {o : ℕ} → w ≡ reads o → w ≡ nothing → ⊥
 some-read e f = let z : _≡_ {A = ℕ} 0 1 = cc in omega (arith, z)
 
 some-write : {w : Want} {o v : ℕ} → w ≡ writes o v → w ≡ nothing → ⊥
