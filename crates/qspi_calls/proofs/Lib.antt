@@ -20,3 +20,4 @@ pub mod Begins
 pub mod Precisely
 pub mod Failures
 pub mod Refusals
+pub mod ReadIndex

@@ -9,3 +9,4 @@ pub mod Orders
 pub mod Stops
 pub mod Wholes
 pub mod Shown
+pub mod Changes
