@@ -239,7 +239,7 @@ module _ (bit : ℕ) (failure : Status) (x : Transfer) (then : Script) (bs : Lis
 -- ---- the chunks of `write_pages`
 
 -- the rule of `program` that a chunk breaks, the earlier ones kept
-data Breaks (c : Chunk) : Status → Type 0 where
+pub data Breaks (c : Chunk) : Status → Type 0 where
   one : 16777215 < c .address + length (c .bytes) → Breaks c OutOfRange
   three : c .address + length (c .bytes) ≤ 16777215 → 240 < length (c .bytes) → Breaks c DataTooLarge
   four : c .address + length (c .bytes) ≤ 16777215 → length (c .bytes) ≤ 240 → (length (c .bytes) % 4 ≡ 0 → ⊥) → Breaks c NotAligned
@@ -252,7 +252,7 @@ accepts : (c : Chunk) (l : List Chunk) → Accepted c → call.pages (c ∷ l) �
 accepts c l h =
     rw (le-ltb 16777215 (c .address + length (c .bytes)) (h .range), le-ltb 240 (length (c .bytes)) (h .small), eq-eqb (length (c .bytes) % 4) 0 (h .fours), le-ltb 256 (c .address % 256 + length (c .bytes)) (h .page))
 
-breaks : (c : Chunk) (l : List Chunk) {a : Status} → Breaks c a → call.pages (c ∷ l) ≡ refused a
+pub breaks : (c : Chunk) (l : List Chunk) {a : Status} → Breaks c a → call.pages (c ∷ l) ≡ refused a
 breaks c l (one h) = rw (lt-ltb 16777215 (c .address + length (c .bytes)) h)
 breaks c l (three h g) = rw (le-ltb 16777215 (c .address + length (c .bytes)) h, lt-ltb 240 (length (c .bytes)) g)
 breaks c l (four h g n) = rw (le-ltb 16777215 (c .address + length (c .bytes)) h, le-ltb 240 (length (c .bytes)) g, ne-eqb (length (c .bytes) % 4) 0 n)

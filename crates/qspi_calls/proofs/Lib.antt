@@ -21,3 +21,4 @@ pub mod Precisely
 pub mod Failures
 pub mod Refusals
 pub mod ReadIndex
+pub mod PreciseExamples

@@ -10,6 +10,7 @@ use borrow.Author.Tests.{ltb-true, ltb-false, le-leb, eqb-true}
 use Rattle.zynq7000.specs.Bits.{isSet, flagValue}
 use Rattle.zedboard_bsp.specs.Words.{topByte}
 use Rattle.qspi_transfer.specs.Wire.{choose, waits, freshWire, atPhase, configRead, pickWire, anotherSent, wordSent, four-more, replyTaken, anotherRegister, pickMoved, registerDone, nextAt, wireNext}
+use Rattle.qspi_transfer.proofs.ReadIndex.{never-wraps}
 use Rattle.qspi_transfer.specs.declared.Due.{Due}
 use Rattle.qspi_transfer.specs.declared.Due.the-variants as due
 use Rattle.qspi_transfer.specs.declared.Frame.{Frame}
@@ -102,7 +103,7 @@ module _ (f : Frame) (w : Wire) (v : ℕ) (s : Sound f w) where
   module _ (words : f .bytes % 4 ≡ 0) (few : f .bytes < 2 ^ 32) where
     -- 4 more, and no wrap
     four-exact : awaits (w .phase) ≡ true → four-more (w .«read_index») ≡ w .«read_index» + 4
-    four-exact e = omega (arith, s .more e, few, s .fours, words)
+    four-exact e = never-wraps (w .«read_index») (omega (arith, s .more e, few, s .fours, words))
 
     took : awaits (w .phase) ≡ true → Sound f (replyTaken w f v)
     took e = go (ltb (four-more (w .«read_index»)) (f .bytes)) refl

@@ -23,6 +23,7 @@ use Rattle.qspi_calls.specs.declared.start.Latency.the-variants.{AsRead,
 use Rattle.qspi_calls.specs.Calls.{refused, erasing, programming}
 use Rattle.qspi_calls.specs.Calls as call
 use Rattle.qspi_calls.proofs.Precisely.{with-working, with-cleared, with-protecting, with-reads, at-once, pages-one}
+use Rattle.qspi_calls.proofs.Failures.{Breaks, breaks}
 use Rattle.qspi_calls.proofs.Registers.{Call, write-enable, write-disable, clear-status, read-status, read-config, read-id, read-long-id, write-status, write-registers, new, set-write-protection, erase-sector, program, write-pages, read, initialize, enable-linear-addressing, enable-io-mode, disable}
 
 -- a call that is lent this log and this buffer answers so without an access: both used counts and the count of bytes programmed are 0, every word of the log and every byte of the buffer is
@@ -124,3 +125,10 @@ refusal-untouched q log buffer replies p = go (at-its-start q p)
 -- 1 of `write_pages`, on the whole length
 pub pages-untouched : (a : ℕ) (bs log buffer replies : List ℕ) → called (call.writePages a bs) (length log / 2) replies .answer ≡ OutOfRange → Untouched (call.writePages a bs) log buffer replies OutOfRange
 pages-untouched a bs log buffer replies q = rw (lt-ltb 16777215 (a + length bs) (pages-one (length log / 2) replies a bs .0 q)) (refused-untouched OutOfRange log buffer replies)
+
+-- a number that its first chunk gives, before any is finished
+pub first-chunk-untouched : (a : ℕ) (bs : List ℕ) (c : Chunk) (l : List Chunk) (s : Status) (log buffer replies : List ℕ) → a + length bs ≤ 16777215 → chunks a bs ≡ c ∷ l → Breaks c s
+    → Untouched (call.writePages a bs) log buffer replies s
+first-chunk-untouched a bs c l s log buffer replies h e b =
+    let z : call.writePages a bs ≡ refused s = ap (λ (x : Bool). onward x (refused OutOfRange) (call.pages (chunks a bs))) (le-ltb 16777215 (a + length bs) h) ∙ (ap call.pages e ∙ breaks c l b) in
+    subst (λ (y : Script). Untouched y log buffer replies s) (sym z) (refused-untouched s log buffer replies)
