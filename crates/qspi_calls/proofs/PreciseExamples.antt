@@ -20,7 +20,7 @@ use Rattle.qspi_operation.specs.Step.{dueOf, bufferOf}
 use Rattle.qspi_calls.specs.Chunks.{chunksIn, chunks}
 use Rattle.qspi_calls.specs.Calls.{zeros, eraseSector, program, writePages}
 use Rattle.qspi_calls.specs.Starts as start
-use Rattle.qspi_calls.proofs.ReadIndex.{Later, now, then}
+use Rattle.qspi_calls.proofs.ReadIndex.{Later, then}
 use Rattle.qspi_calls.proofs.Refusals.{byInput}
 
 -- what a one-word transfer reads where nothing is to be drained and the reply is ready: status, config, config, status, the reply, config

@@ -1,10 +1,10 @@
 -- Document 01's numbers 1 to 5, 10, 12, 23 and 24, each with "precisely when": "What the input can bring on" in the order of its rules, whatever the room and the replies are, and "What the
 -- state can bring on". Failures has 21 and 22, and 4 and 5 after finished chunks. Assumes nothing.
-use mathlib.Core.Path.{_≡_, refl, ap, subst, _∙_, sym}
+use mathlib.Core.Path.{_≡_, refl, ap, _∙_, sym}
 use mathlib.Core.Bool.{Bool, true, false, not, _||_}
 use mathlib.Core.List.{List, [], _∷_}
 use mathlib.Core.Logic.{_↔_, Iff·and, Iff·trans, Iff·rfl}
-use Prim.Native.Nat.{ℕ, zero, suc, _+_, _%_, _≤_, _<_, min}
+use Prim.Native.Nat.{ℕ, zero, suc, _+_, _%_, _≤_, _<_}
 use native.Mathlib.Omega.{arith}
 use lib.Dec.{ltb, eqb}
 use lib.ListN.{length}
@@ -12,17 +12,16 @@ use borrow.Author.Tests.{ltb-true, ltb-false, lt-ltb, le-ltb, eq-eqb, ne-eqb, eq
 use Rattle.zynq7000.specs.Bits.{isSet}
 use Rattle.zynq7000_hal.specs.declared.qspi.ClockConfig.{ClockConfig}
 use Rattle.zedboard_bsp.specs.Registers.{protected, updateNeeded}
-use Rattle.qspi_script.specs.Turns.{largestChunk}
 use Rattle.qspi_script.specs.declared.Status.{Status}
-use Rattle.qspi_script.specs.declared.Status.the-variants.{Done, OutOfRange, Alignment, DataTooLarge, NotAligned, CrossesPageBoundary, AddressSpan, FieldTooWide, EraseErrorBitSet, ProgrammingErrorBitSet, RepliesEnded, LogFull}
-use Rattle.qspi_operation.specs.Machine.{Transfer, Script, ends, exchange, onward, State, ended, want, reads, nothing, Result, halt, runs, called}
+use Rattle.qspi_script.specs.declared.Status.the-variants.{Done, OutOfRange, Alignment, DataTooLarge, NotAligned, CrossesPageBoundary, AddressSpan, FieldTooWide, ProgrammingErrorBitSet, RepliesEnded, LogFull}
+use Rattle.qspi_operation.specs.Machine.{Transfer, Script, ends, exchange, onward, ended, want, reads, nothing, Result, halt, runs, called}
 use Rattle.qspi_operation.proofs.Verdicts.{no}
 use Rattle.qspi_operation.proofs.Stops.{numberOf, EndsWith, with-end, with-perform, with-repeat, with-count, with-either, answers, ownAnswer, full-when, dry-when}
 use Rattle.qspi_calls.specs.Chunks.{Chunk, chunksIn, chunks, Among, here, there}
 use Rattle.qspi_calls.specs.declared.start.Config.{Config}
 use Rattle.qspi_calls.specs.declared.start.Latency.{Latency}
 use Rattle.qspi_calls.specs.declared.start.Latency.the-variants.{AsRead, Code}
-use Rattle.qspi_calls.specs.Calls.{refused, enabling, clearing, statusReading, configReading, erasing, programming, top}
+use Rattle.qspi_calls.specs.Calls.{refused, clearing, statusReading, configReading, erasing, programming, top}
 use Rattle.qspi_calls.specs.Calls as call
 use Rattle.qspi_calls.proofs.Pages.{within}
 use Rattle.qspi_calls.proofs.Registers.{Call, write-enable, write-disable, clear-status, read-status, read-config, read-id, read-long-id, write-status, write-registers, new, set-write-protection, erase-sector, program, write-pages, read, initialize, enable-linear-addressing, enable-io-mode, disable}

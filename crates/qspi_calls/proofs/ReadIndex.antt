@@ -1,15 +1,15 @@
 -- `read_index` of `program`, `write_pages` and the reads, over every run of theirs: "Replies are counted in bytes, each adding 4 by a wrapping add", which never wraps. Assumes nothing.
 use mathlib.Core.Path.{_≡_, refl, ap, _∙_, sym}
-use mathlib.Core.Bool.{Bool, true, false, cond}
-use mathlib.Core.List.{List, []}
-use Prim.Native.Nat.{ℕ, zero, suc, _+_, _-_, _*_, _/_, _%_, _^_, _≤_, _<_, min}
+use mathlib.Core.Bool.{Bool, true, false}
+use mathlib.Core.List.{List}
+use Prim.Native.Nat.{ℕ, _+_, _-_, _%_, _^_, _≤_, _<_, min}
 use native.Mathlib.Omega.{arith}
 use lib.Dec.{ltb, leb, eqb}
 use lib.ListN.{length}
 use borrow.Author.Tests.{ltb-true, ltb-false, le-leb, eqb-true}
 use Rattle.zynq7000.specs.Bits.{isSet, flagValue}
 use Rattle.zedboard_bsp.specs.Words.{topByte}
-use Rattle.qspi_transfer.specs.Wire.{choose, waits, freshWire, atPhase, configRead, pickWire, anotherSent, wordSent, four-more, replyTaken, anotherRegister, pickMoved, registerDone, nextAt, wireNext}
+use Rattle.qspi_transfer.specs.Wire.{choose, waits, freshWire, atPhase, configRead, pickWire, anotherSent, four-more, replyTaken, anotherRegister, pickMoved, nextAt, wireNext}
 use Rattle.qspi_transfer.proofs.ReadIndex.{never-wraps}
 use Rattle.qspi_transfer.specs.declared.Due.{Due}
 use Rattle.qspi_transfer.specs.declared.Due.the-variants as due
@@ -20,11 +20,11 @@ use Rattle.qspi_transfer.specs.declared.Phase.{Phase}
 use Rattle.qspi_transfer.specs.declared.Phase.the-variants.{DrainStatus, DrainData, OpenRead, OpenWrite, Enable, Send, StartRead, StartWrite, Wait, WaitAgain, Take, CloseRead, CloseWrite, Disable, Registers}
 use Rattle.qspi_transfer.specs.declared.Wire.{Wire}
 use Rattle.qspi_script.specs.Stages.{frameOf, chunkAddress}
-use Rattle.qspi_script.specs.Turns.{turnOf, pick, begin, finish, settled, pickPage, pageAt, grown, nextPage, pickNext, nextRead, nextChunk, largestChunk, readOn, failed}
+use Rattle.qspi_script.specs.Turns.{turnOf, pick, begin, finish, settled, pageAt, grown, nextPage, nextChunk, largestChunk}
 use Rattle.qspi_script.specs.declared.Stage.{Stage}
 use Rattle.qspi_script.specs.declared.Stage.the-variants as stage
 use Rattle.qspi_script.specs.declared.Status.{Status}
-use Rattle.qspi_script.specs.declared.Status.the-variants.{Going, Done, OutOfRange, DataTooLarge, NotAligned, CrossesPageBoundary, AddressSpan, RepliesEnded, LogFull}
+use Rattle.qspi_script.specs.declared.Status.the-variants.{Done, OutOfRange, DataTooLarge, NotAligned, CrossesPageBoundary, AddressSpan}
 use Rattle.qspi_script.specs.declared.Job.{Job}
 use Rattle.qspi_script.specs.declared.Place.{Place}
 use Rattle.qspi_script.specs.declared.Turned.{Turned}

@@ -1,23 +1,21 @@
 -- Every refusal at the start makes no access and changes no word: document 01, "A refusal here, but for 4 and 5 from `write_pages`, makes no access". Assumes nothing.
 use mathlib.Core.Path.{_≡_, refl, ap, subst, _∙_, sym}
 use mathlib.Core.Bool.{Bool, true, false, not, _&&_}
-use mathlib.Core.List.{List, [], _∷_, _++_}
-use Prim.Native.Nat.{ℕ, _+_, _/_, _%_, _≤_, _<_}
-use native.Mathlib.Omega.{arith}
+use mathlib.Core.List.{List, [], _∷_}
+use Prim.Native.Nat.{ℕ, _+_, _/_, _%_, _≤_}
 use lib.Dec.{ltb, eqb}
 use lib.ListN.{length}
-use borrow.Author.Tests.{ltb-true, lt-ltb, le-ltb}
+use borrow.Author.Tests.{lt-ltb, le-ltb}
 use Rattle.zynq7000.specs.Access.{encode}
-use Rattle.qspi_script.specs.Answer.{Answered, saidBy}
+use Rattle.qspi_script.specs.Answer.{saidBy}
 use Rattle.qspi_script.specs.declared.Status.{Status}
-use Rattle.qspi_script.specs.declared.Status.the-variants.{Done, OutOfRange, FieldTooWide, EraseErrorBitSet}
-use Rattle.qspi_operation.specs.Machine.{Script, ends, onward, State, ended, Result, halt, called, readsOf}
+use Rattle.qspi_script.specs.declared.Status.the-variants.{OutOfRange, FieldTooWide}
+use Rattle.qspi_operation.specs.Machine.{Script, onward, Result, called, readsOf}
 use Rattle.qspi_operation.specs.Points.{answeredOf}
 use Rattle.qspi_operation.proofs.Verdicts.{no}
-use Rattle.qspi_operation.proofs.Stops.{numberOf, EndsWith, with-end, with-perform, with-either, answers}
+use Rattle.qspi_operation.proofs.Stops.{numberOf, EndsWith, with-end, with-perform, answers}
 use Rattle.qspi_calls.specs.Chunks.{Chunk, chunks}
 use Rattle.qspi_calls.specs.Promise.{loggedOf, bufferedOf}
-use Rattle.qspi_calls.specs.declared.start.Config.{Config}
 use Rattle.qspi_calls.specs.declared.start.Latency.{Latency}
 use Rattle.qspi_calls.specs.declared.start.Latency.the-variants.{AsRead, Code}
 use Rattle.qspi_calls.specs.Calls.{refused, erasing, programming}

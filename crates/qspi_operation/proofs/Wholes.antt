@@ -11,8 +11,8 @@ use Rattle.zynq7000.specs.declared.qspi.Access.the-variants as access
 use Rattle.qspi_script.specs.declared.Status.{Status}
 use Rattle.qspi_script.specs.declared.Status.the-variants.{Done}
 use Rattle.qspi_transfer.specs.Wire.{waits}
-use Rattle.qspi_operation.specs.Machine.{Action, Midway, first, full, write, modify, drain, reply, Want, reads, writes, nothing, wantAt, Progress, stays, over, takes, progress, Transfer, replicate, replying, opening, Script, ends, none, exchange, State, going, ended, begin, proceed, moves, want, next, valuesIn, Matches, m-read, m-write, Makes, after}
-use Rattle.qspi_operation.specs.Whole.{alone, Whole}
+use Rattle.qspi_operation.specs.Machine.{Action, Midway, first, full, write, drain, reply, Want, reads, writes, nothing, wantAt, Progress, stays, over, takes, progress, Transfer, replicate, replying, opening, Script, ends, none, exchange, State, going, ended, begin, proceed, moves, want, next, valuesIn, Matches, m-read, m-write, Makes, after}
+use Rattle.qspi_operation.specs.Whole.{Whole}
 use Rattle.qspi_operation.proofs.Stops.{some-due}
 
 -- the accesses of a script from its beginning on, and where they lead
