@@ -371,7 +371,7 @@ module _ (room : ℕ) (replies : List ℕ) where
       go e (fails f z) = f
       go e (settles front tail s is p) = absurd (n (ap statusIn (plays-end Done [] [] 0 tail _ p .1) ∙ e))
 
-  -- 21: precisely when the status that ended the loop shows bit 5, and clear status and write disable were made whole
+  -- 21: "status bit 5" in the status transfer that ended the loop, and "clear status and write disable are in the log", both whole
   pub erase-twenty-one : (a : ℕ) → Answers (call.eraseSector a) EraseErrorBitSet ↔ Fails 5 (erasing a) (logOf (call.eraseSector a))
   erase-twenty-one a =
       Iff·trans (Iff·trans (past room replies (λ r. r .answer ≡ EraseErrorBitSet) b₁ OutOfRange _ (refuses-not room replies OutOfRange EraseErrorBitSet refl refl)) (Iff·and Iff·rfl (past-not room replies (λ r. r .answer ≡ EraseErrorBitSet) b₂ Alignment _ (refuses-not room replies Alignment EraseErrorBitSet refl refl))))
@@ -384,7 +384,7 @@ module _ (room : ℕ) (replies : List ℕ) where
       b₂ : Bool
       b₂ = eqb (a % 65536) 0
 
-  -- 22 of `program`: the same with bit 6
+  -- 22 of `program`: "status bit 6", "the same"
   pub program-twenty-two : (a : ℕ) (bs : List ℕ) → Answers (call.program a bs) ProgrammingErrorBitSet ↔ Fails 6 (programming a bs) (logOf (call.program a bs))
   program-twenty-two a bs =
       Iff·trans (accepted room replies a bs (λ r. r .answer ≡ ProgrammingErrorBitSet) (refuses-not room replies OutOfRange ProgrammingErrorBitSet refl refl) (refuses-not room replies DataTooLarge ProgrammingErrorBitSet refl refl)
@@ -430,7 +430,7 @@ module _ (room : ℕ) (replies : List ℕ) where
     unfolding chunks
     chunk-in h c t = let w = within (length bs) a bs c (among-middle (t .before) c (t .behind) _ (t .is)) in (omega (arith, w .0, h), omega (arith, w .1))
 
-    -- 4: precisely when the chunk that comes after finished ones is no multiple of 4 long
+    -- 4, which "may come after finished chunks": the chunk that comes then has a "length not a multiple of 4"; the log is that of the finished ones
     pub pages-four : Answers save NotAligned ↔ ((a + length bs ≤ 16777215) × ((c : Chunk) × (ComesTo a bs c (logOf save) × (length (c .bytes) % 4 ≡ 0 → ⊥))))
     pages-four = (
       λ q. let y = saved NotAligned refl (λ e. let z : _≡_ {A = ℕ} 1 4 = ap numberOf e in omega (arith, z)) q in (y .0, to (y .1)),
@@ -442,7 +442,7 @@ module _ (room : ℕ) (replies : List ℕ) where
         to (refused-at before c behind is f (four h g n)) = (c, (record { before = before; behind = behind; is = is; finished = f }, n))
         to (failed-at before c behind is front tail l f h g e) = absurd (let z : _≡_ {A = ℕ} 22 4 = ap numberOf e in omega (arith, z))
 
-    -- 5: precisely when that chunk passes the end of its page, and 4 does not apply to it
+    -- 5, likewise: that chunk has "addr mod 256 plus length above 256", and 4 does not apply to it
     pub pages-five : Answers save CrossesPageBoundary ↔ ((a + length bs ≤ 16777215) × ((c : Chunk) × (ComesTo a bs c (logOf save) × ((length (c .bytes) % 4 ≡ 0) × (256 < c .address % 256 + length (c .bytes))))))
     pages-five = (
       λ q. let y = saved CrossesPageBoundary refl (λ e. let z : _≡_ {A = ℕ} 1 5 = ap numberOf e in omega (arith, z)) q in (y .0, to (y .1)),
@@ -456,7 +456,7 @@ module _ (room : ℕ) (replies : List ℕ) where
         to (refused-at before c behind is f (five h g n p)) = (c, (record { before = before; behind = behind; is = is; finished = f }, (n, p)))
         to (failed-at before c behind is front tail l f h g e) = absurd (let z : _≡_ {A = ℕ} 22 5 = ap numberOf e in omega (arith, z))
 
-    -- 22: precisely when the accesses after finished chunks are those of one that `program` accepts and that fails
+    -- 22: the accesses after those of the finished chunks are those of the next, which `program` accepts and which fails as above
     pub pages-twenty-two : Answers save ProgrammingErrorBitSet
         ↔ ((a + length bs ≤ 16777215) × ((c : Chunk) × (Accepted c × ((front : List Access) × ((tail : List Access) × ((logOf save ≡ front ++ tail) × (ComesTo a bs c front × Fails 6 (programming (c .address) (c .bytes)) tail)))))))
     pages-twenty-two = (
@@ -474,7 +474,7 @@ module _ (room : ℕ) (replies : List ℕ) where
             ends-so h (t .before) (c ∷ t .behind) front tail (t .is) (t .finished) l ProgrammingErrorBitSet
             (λ m. ap (λ (z : Script). after (begin z [] m) tail) (accepts c (t .behind) k) ∙ after-fails 6 ProgrammingErrorBitSet (programming (c .address) (c .bytes)) (counts (length (c .bytes)) (call.pages (t .behind))) [] m tail f)
 
-    -- 0: precisely when every chunk is finished
+    -- 0: every chunk is finished
     pub pages-done : Answers save Done ↔ ((a + length bs ≤ 16777215) × Finished (chunks a bs) (logOf save))
     pages-done = (
       λ q. let y = saved Done refl (λ e. let z : _≡_ {A = ℕ} 1 0 = ap numberOf e in omega (arith, z)) q in (y .0, to (y .1)),

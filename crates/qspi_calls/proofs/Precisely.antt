@@ -187,12 +187,12 @@ module _ (room : ℕ) (replies : List ℕ) where
 
   -- ---- erase_sector
 
-  -- 1: "address + length > 16,777,215", the sum taken in full
+  -- 1: "addr + 65,536, .. above 16,777,215; the sum taken in full"
   pub erase-one : (a : ℕ) → Answers (call.eraseSector a) OutOfRange ↔ (16777215 < a + 65536)
   erase-one a =
       Iff·trans (applies (ltb 16777215 (a + 65536)) OutOfRange _ (never OutOfRange (with-either (eqb (a % 65536) 0) (with-working 5 _ (erasing a) refl (with-end refl)) (with-end refl)) refl refl refl)) (below 16777215 (a + 65536))
 
-  -- 2: the address is no multiple of 65,536, and 1 does not apply
+  -- 2: "addr not a multiple of 65,536", and 1 does not apply
   pub erase-two : (a : ℕ) → Answers (call.eraseSector a) Alignment ↔ ((a + 65536 ≤ 16777215) × (a % 65536 ≡ 0 → ⊥))
   erase-two a =
       Iff·trans (past (λ r. r .answer ≡ Alignment) (ltb 16777215 (a + 65536)) OutOfRange _ (refuses-not OutOfRange Alignment refl refl))
@@ -244,24 +244,24 @@ module _ (room : ℕ) (replies : List ℕ) where
         → Q (called (call.program a bs) room replies) ↔ ((a + length bs ≤ 16777215) × ((length bs ≤ 240) × ((length bs % 4 ≡ 0) × ((a % 256 + length bs ≤ 256) × Q (called work room replies)))))
     accepted Q n₁ n₃ n₄ n₅ = Iff·trans (past-one Q n₁) (Iff·and Iff·rfl (Iff·trans (past-three Q n₃) (Iff·and Iff·rfl (Iff·trans (past-four Q n₄) (Iff·and Iff·rfl (past-five Q n₅))))))
 
-    -- 1: "address + length > 16,777,215"
+    -- 1: "addr + length, above 16,777,215; the sum taken in full"
     pub program-one : Answers (call.program a bs) OutOfRange ↔ (16777215 < a + length bs)
     program-one = Iff·trans (applies (ltb 16777215 (a + length bs)) OutOfRange small (never OutOfRange (with-small (other OutOfRange) refl refl refl refl refl) refl refl refl)) (below 16777215 (a + length bs))
 
-    -- 3: more than 240 bytes, and 1 does not apply
+    -- 3: "over 240 bytes", and 1 does not apply
     pub program-three : Answers (call.program a bs) DataTooLarge ↔ ((a + length bs ≤ 16777215) × (240 < length bs))
     program-three =
         Iff·trans (past-one (λ r. r .answer ≡ DataTooLarge) (refuses-not OutOfRange DataTooLarge refl refl))
         (Iff·and Iff·rfl (Iff·trans (applies (ltb 240 (length bs)) DataTooLarge aligned (never DataTooLarge (with-aligned (other DataTooLarge) refl refl refl refl) refl refl refl)) (below 240 (length bs))))
 
-    -- 4: the length is no multiple of 4, and neither 1 nor 3 applies
+    -- 4: "length not a multiple of 4", and neither 1 nor 3 applies
     pub program-four : Answers (call.program a bs) NotAligned ↔ ((a + length bs ≤ 16777215) × ((length bs ≤ 240) × (length bs % 4 ≡ 0 → ⊥)))
     program-four =
         Iff·trans (past-one (λ r. r .answer ≡ NotAligned) (refuses-not OutOfRange NotAligned refl refl))
         (Iff·and Iff·rfl (Iff·trans (past-three (λ r. r .answer ≡ NotAligned) (refuses-not DataTooLarge NotAligned refl refl))
         (Iff·and Iff·rfl (Iff·trans (applies-not (eqb (length bs % 4) 0) NotAligned paged (never NotAligned (with-paged (other NotAligned) refl refl refl) refl refl refl)) (unequal (length bs % 4) 0)))))
 
-    -- 5: the bytes pass the end of their page of 256, and none of 1, 3 and 4 applies
+    -- 5: "addr mod 256 plus length above 256", and none of 1, 3 and 4 applies
     pub program-five : Answers (call.program a bs) CrossesPageBoundary ↔ ((a + length bs ≤ 16777215) × ((length bs ≤ 240) × ((length bs % 4 ≡ 0) × (256 < a % 256 + length bs))))
     program-five =
         Iff·trans (past-one (λ r. r .answer ≡ CrossesPageBoundary) (refuses-not OutOfRange CrossesPageBoundary refl refl))
@@ -271,7 +271,7 @@ module _ (room : ℕ) (replies : List ℕ) where
 
   -- ---- write_pages, the reads, and values wider than their field
 
-  -- 1: on the whole length; a chunk never gives it
+  -- 1: "`write_pages` gives 1 on the whole length first"; a chunk never gives it
   pub pages-one : (a : ℕ) (bs : List ℕ) → Answers (call.writePages a bs) OutOfRange ↔ (16777215 < a + length bs)
   pages-one a bs = (to (ltb 16777215 (a + length bs)) refl, λ h. rw (lt-ltb 16777215 (a + length bs) h) (answers-at-once OutOfRange))
     where
@@ -279,11 +279,11 @@ module _ (room : ℕ) (replies : List ℕ) where
       to true e q = ltb-true 16777215 (a + length bs) e
       to false e q = absurd (never OutOfRange (chunks-past-one a bs (ltb-false 16777215 (a + length bs) e)) refl refl refl q)
 
-  -- 10: "address + length > 4,294,967,296", of READ and of FAST READ, with and without the dummy byte
+  -- 10: "addr + length above 4,294,967,296", of READ and of FAST READ, with and without the dummy byte
   pub read-ten : (fast dummy : Bool) (a n : ℕ) → Answers (call.read fast dummy a n) AddressSpan ↔ (4294967296 < a + n)
   read-ten fast dummy a n = Iff·trans (applies (ltb 4294967296 (a + n)) AddressSpan _ (never AddressSpan (with-reads refl n fast dummy a n) refl refl refl)) (below 4294967296 (a + n))
 
-  -- 12: a latency above 3, where one is asked for
+  -- 12: "latency above 3", where one is asked for
   pub new-twelve : (c : Config) → Answers (call.newCall c) FieldTooWide ↔ ((v : ℕ) × ((c .«latency_config» ≡ Code v) × (3 < v)))
   new-twelve c = go (c .«latency_config»)
     where
@@ -296,11 +296,11 @@ module _ (room : ℕ) (replies : List ℕ) where
           Iff·trans (applies (ltb 3 v) FieldTooWide _ (rest true v))
           (λ e. (v, (refl, ltb-true 3 v e)), λ h. lt-ltb 3 v (let z : v ≡ h .0 = coded (h .1 .0) in omega (arith, z, h .1 .1)))
 
-  -- 12: block protection bits above 7
+  -- 12: "protection above 7"
   pub protection-twelve : (q : ℕ) → Answers (call.setWriteProtection q) FieldTooWide ↔ (7 < q)
   protection-twelve q = Iff·trans (applies (ltb 7 q) FieldTooWide _ (never FieldTooWide (with-protecting refl q) refl refl refl)) (below 7 q)
 
-  -- 12: a divisor of the reference clock above 63
+  -- 12: "clock divisor above 63"
   pub initialize-twelve : (c : ClockConfig) (phase polarity : Bool) → Answers (call.initialize c phase polarity) FieldTooWide ↔ (63 < c .«ref_clk_div»)
   initialize-twelve c phase polarity =
       Iff·trans (applies (ltb 63 (c .«ref_clk_div»)) FieldTooWide _ (never FieldTooWide (with-perform (λ rs. with-end refl)) refl refl refl)) (below 63 (c .«ref_clk_div»))
@@ -311,10 +311,10 @@ module _ (room : ℕ) (replies : List ℕ) where
     abbrev r : Result
     r = called c room replies
 
-    -- 24: an access is due where the run stands, and there is no room for it
+    -- 24: "an access is due, fewer than two words of log left": there is no room for it where the run stands
     pub twenty-four : Answers c LogFull ↔ ((want (r .state) ≡ nothing → ⊥) × (r .room ≡ 0))
     twenty-four = full-when (calls-own q) room replies
 
-    -- 23: a read is due where the run stands, there is room for it, and no reply is left
+    -- 23: "a read is due, no reply left" where the run stands, and there is room for it
     pub twenty-three : Answers c RepliesEnded ↔ (((o : ℕ) × (want (r .state) ≡ reads o)) × ((0 < r .room) × (r .unread ≡ [])))
     twenty-three = dry-when (calls-own q) room replies

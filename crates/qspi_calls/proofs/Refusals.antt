@@ -1,4 +1,5 @@
--- Every refusal at the start makes no access and changes no word: document 01, "A refusal here, but for 4 and 5 from `write_pages`, makes no access". Assumes nothing.
+-- Every refusal at the start makes no access and changes no word: document 01, "A refusal here, but for 4 and 5 from `write_pages`, makes no access: log and buffers are untouched, both used
+-- counts (log words, replies) are 0." Assumes nothing.
 use mathlib.Core.Path.{_≡_, refl, ap, subst, _∙_, sym}
 use mathlib.Core.Bool.{Bool, true, false, not, _&&_}
 use mathlib.Core.List.{List, [], _∷_}
