@@ -9,8 +9,17 @@
  * 10 AddressSpan, 11 UnknownCode, 12 FieldTooWide, 21 EraseErrorBitSet, 22 ProgrammingErrorBitSet, 23 RepliesEnded,
  * 24 LogFull. Any value of any argument gets one of these answers.
  *
+ * After 23 or 24 a transfer may be open: chip select is then low, and TX words may wait that the next call would send ahead of
+ * its own. A write enable after a save that ended so can program its command byte behind the save's data. Reset the controller
+ * first (README, "Before you rely on it"); qspi_disable does not empty it.
+ *
+ * What qspi_write_pages promises of a power cut holds of a controller and flash at rest: after qspi_new, not straight after
+ * qspi_initialize and qspi_enable_io_mode. README has all premises.
+ *
  * A slice is a pointer and a number of elements. The pointer is not null and aligned, also where the number is 0, and slices
  * of one call do not overlap.
+ *
+ * The archive is for x86-64 Linux; it is no build for the Zynq.
  */
 #ifndef QSPI_H
 #define QSPI_H
@@ -22,6 +31,37 @@
 #ifdef __cplusplus
 extern "C" {
 #endif
+
+/* How much log a call needs: two words for each access. A device is prompt where no RX word waits as the call starts, each look
+ * at register 04 finds the reply that is due, and the first status read after a program or an erase is clean. On such a device
+ * the calls make so many accesses:
+ *     program, write_pages, reads                        by the macros; a chunk of 128 bytes of write_pages takes 164
+ *     erase_sector                                       36
+ *     new                                                12; 36 where something is asked for; 60 where it has to be written
+ *     set_write_protection                               48
+ *     write_status, write_status_and_config_register     24
+ *     read_rdid_extended                                 18
+ *     the other commands and register reads              12
+ *     enable_io_mode, enable_linear_addressing, disable  5, 4, 3
+ *     initialize                                         1; 2 with loopback
+ * A refused call makes as many or fewer.
+ *
+ * QSPI_LOG_WORDS(accesses, busy, looks) are the log words for such a number on a slower device: with `busy` status reads that
+ * show it at work, 12 accesses each, and `looks` further looks at 04, one or two each; both are counted over the whole call. An
+ * error bit costs as much as two of the first, an RX word that waits at the start as much as one of the second. How many there
+ * are is the device's choice. Where the log is too short the call ends with 24.
+ *
+ * The macros give a uint64_t, constant where the arguments are, and use an argument more than once. They hold for lengths up to
+ * 4294967296; no call accepts more. */
+#define QSPI_PROGRAM_ACCESSES(length) ((uint64_t)36 + (uint64_t)(length))
+#define QSPI_WRITE_PAGES_ACCESSES(length) ((uint64_t)(length) + ((uint64_t)(length) + 127) / 128 * 36)
+#define QSPI_READ_ACCESSES(length, dummy_byte) ((dummy_byte) ? QSPI_READS_OF(length, 1) : QSPI_READS_OF(length, 0))
+#define QSPI_LOG_WORDS(accesses, busy, looks) (((uint64_t)(accesses) + (uint64_t)(busy) * 12 + (uint64_t)(looks) * 2) * 2)
+
+/* Chunks of 248 bytes, or 247 and the dummy byte, 261 accesses each; a shorter one has 13 and 4 for each word that it reads. */
+#define QSPI_READS_OF(length, dummy) \
+    ((uint64_t)(length) / (248 - (dummy)) * 261 + QSPI_READ_REST((uint64_t)(length) % (248 - (dummy)), dummy))
+#define QSPI_READ_REST(rest, dummy) ((rest) == 0 ? 0 : 13 + ((rest) + (dummy) + 3) / 4 * 4)
 
 /* How a call ended: log words and replies that it used. */
 struct qspi_ran {

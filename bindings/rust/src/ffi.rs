@@ -204,4 +204,4 @@ unsafe extern "C" {
 }
 
 #[cfg(test)]
-mod tests;
+pub(crate) mod tests;

@@ -4,6 +4,12 @@
 //! hardware: a register read takes the next reply, and each access goes into the log as two words, the offset (plus 0x100 for a
 //! read) and the value. Log words past the used ones and bytes that are not read keep what they held.
 //!
+//! After [RepliesEnded](Answer::RepliesEnded) or [LogFull](Answer::LogFull) a transfer may be open: chip select is then low, and TX
+//! words may wait that the next call would send ahead of its own. A write enable after a save that ended so can program its
+//! command byte behind the save's data. Reset the controller first; [disable] does not empty it. [room] says how much log a call
+//! needs. What [write_pages] promises of a power cut holds of a controller and flash at rest: after [new], not straight after
+//! [initialize] and [enable_io_mode]. The repository's README has all premises. The archive is for x86-64 Linux.
+//!
 //! A write enable that ends well, with the log of its twelve accesses:
 //!
 //! ```
@@ -16,8 +22,11 @@
 //! ```
 
 mod answer;
+#[cfg(test)]
+mod device;
 #[allow(non_camel_case_types)]
 mod ffi;
+pub mod room;
 
 pub use answer::Answer;
 
@@ -314,7 +323,8 @@ call! {
 }
 
 call! {
-    /// Programs `data` in chunks of 128 bytes.
+    /// Programs `data` in chunks of 128 bytes. After a power cut the chunks finished by then are whole and at most the next one
+    /// is in doubt, under the premises in the README.
     write_pages = qspi_write_pages(addr: u32 => [addr], data: &[u8] => [data.as_ptr(), data.len()]) -> PagesRan
 }
 

@@ -38,7 +38,7 @@ fn declared_layout() -> String {
 
 /// A C program that prints the same lines.
 fn layout_program() -> String {
-    let mut text = String::from("#include \"qspi.h\"\n#include <stdio.h>\nint main(void) {\n");
+    let mut text = String::from("int main(void) {\n");
     for (name, _, fields) in STRUCTS {
         text += &format!("printf(\"{name} %zu\\n\", sizeof(struct {name}));\n");
         for (field, _) in *fields {
@@ -48,13 +48,14 @@ fn layout_program() -> String {
     text + "return 0;\n}\n"
 }
 
-/// Compiles and runs the program; nothing where there is no C compiler.
-fn compiled_layout() -> Option<String> {
+/// What a C program with the header prints; nothing where there is no C compiler.
+pub(crate) fn printed_by_c(name: &str, text: &str) -> Option<String> {
     Command::new("cc").arg("--version").output().ok()?;
-    let folder = env::temp_dir().join(format!("qspi-layout-{}", process::id()));
+    let folder = env::temp_dir().join(format!("qspi-{name}-{}", process::id()));
     fs::create_dir_all(&folder).expect("a folder for the C program");
-    let (source, program) = (folder.join("layout.c"), folder.join("layout"));
-    fs::write(&source, layout_program()).expect("the C program's text");
+    let (source, program) = (folder.join("program.c"), folder.join("program"));
+    let text = format!("#include \"qspi.h\"\n#include <stdio.h>\n{text}");
+    fs::write(&source, text).expect("the C program's text");
     let include = header().parent().expect("a folder holds the header").to_owned();
     let built = Command::new("cc").arg("-I").arg(include).arg(&source).arg("-o").arg(&program).status();
     assert!(built.expect("cc runs").success(), "the C program does not compile");
@@ -65,7 +66,7 @@ fn compiled_layout() -> Option<String> {
 
 #[test]
 fn structs_have_the_c_layout() {
-    match compiled_layout() {
+    match printed_by_c("layout", &layout_program()) {
         Some(compiled) => assert_eq!(declared_layout(), compiled),
         None => eprintln!("skipped: no C compiler"),
     }
@@ -83,6 +84,7 @@ fn plain(text: &str) -> String {
         rest = after.split_once("*/").map_or("", |(_, after)| after);
     }
     out += rest;
+    let out = out.replace("\\\n", " ");
     let kept: Vec<&str> = out.lines().filter(|l| !l.starts_with('#')).flat_map(str::split_whitespace).collect();
     kept.join(" ")
 }
