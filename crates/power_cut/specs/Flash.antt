@@ -52,7 +52,8 @@ commandOf (b ∷ bs) =
 
 -- ---- what the work does to the array
 
--- the address of byte i of a program at a: a program stays in its page of 256 bytes (datasheet, page program)
+-- the address of byte i of a program at a: a program stays in its page of 256 bytes. 01 does not say so, and the driver sends none that
+-- reaches past its page.
 unfoldable pub byteAddress : ℕ → ℕ → ℕ
 byteAddress a i = a / 256 * 256 + (a + i) % 256
 

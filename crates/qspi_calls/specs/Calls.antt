@@ -1,5 +1,5 @@
 -- The calls of document 01 over lists: "One transfer, access by access", the refusals of "What the input can bring on" in their order, and
--- "What changes shape". Each is a script of specs/Machine.
+-- "What changes shape". Each is a script of specs/Machine of qspi_operation.
 use Prim.Native.Nat.{ℕ, zero, suc, _+_, _-_, _/_, _%_, min}
 use mathlib.Core.Bool.{Bool, true, false, not, _&&_, _||_}
 use mathlib.Core.List.{List, [], _∷_, _++_, map}

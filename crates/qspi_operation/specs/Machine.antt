@@ -1,5 +1,6 @@
 -- A call over lists, to be read beside document 01's "One transfer, access by access": what a call does is a list of actions, and what it
--- does after them is decided by the replies. Nothing here counts words or bytes; proofs/Tied shows that the steps of the code do the same.
+-- does after them is decided by the replies. Where it stands is the list of actions left, not a count of words sent and replies taken, as in
+-- the code; proofs/Tied of qspi_calls shows that the steps of the code do the same.
 use Prim.Native.Nat.{ℕ, zero, suc, _+_}
 use mathlib.Core.Bool.{Bool, true, false, cond}
 use mathlib.Core.List.{List, [], _∷_, _++_, map, reverse}

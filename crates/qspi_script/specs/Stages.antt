@@ -1,5 +1,5 @@
 -- The transfers of the calls by their counters: how many words and replies each has, and the words it sends. Document 01, "One transfer,
--- access by access"; the words are the datasheet's (zedboard_bsp, specs/Words).
+-- access by access"; the words are those of specs/Words of zedboard_bsp.
 use Prim.Native.Nat.{ℕ, _+_, _-_, _*_, _/_, _%_, _^_}
 use mathlib.Core.Bool.{Bool, true, false, cond}
 use mathlib.Core.List.{List, [], _∷_}

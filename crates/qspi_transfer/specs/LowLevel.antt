@@ -1,5 +1,5 @@
 -- The calls that write registers and send nothing, by the number of the access: document 01, "Modules of the flash path", 3, and the
--- functions of those names in the Rust file `zynq7000-hal/src/qspi/mod.rs`. Bits are UG585's, Config_reg.
+-- functions of those names in the Rust file `zynq7000-hal/src/qspi/mod.rs`. Bits are those of config in specs/Qspi of zynq7000.
 use Prim.Native.Nat.{ℕ}
 use mathlib.Core.Bool.{Bool, true, false}
 use lib.Dec.{eqb}

@@ -1,5 +1,5 @@
--- One transfer by its counters: what comes after each access. Document 01, "One transfer, access by access". specs/Machine of qspi_calls
--- says it over lists of actions, to be read beside that section, and proofs/Phases there shows that the two agree.
+-- One transfer by its counters: what comes after each access. Document 01, "One transfer, access by access". specs/Machine of
+-- qspi_operation says it over lists of actions, to be read beside that section, and proofs/Phases of qspi_calls shows that the two agree.
 use Prim.Native.Nat.{ℕ, _+_, _%_, _^_}
 use mathlib.Core.Bool.{Bool, true, false}
 use lib.Dec.{ltb}

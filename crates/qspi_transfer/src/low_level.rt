@@ -43,7 +43,7 @@ fn initialize_due(at: u32, word: u32) -> Due
     )
 }
 
-// Start and chip select are the controller's in this mode: UG585 wants these bits 0.
+// Start and chip select are the controller's in this mode: the manual wants these bits 0, says the Rust.
 fn linear_config(config: u32) -> u32
     ensures word { λ r. ⌜ r ≡ automatic config ⌝ }
 {

@@ -1,5 +1,5 @@
--- What the simulated device answers to a word: document 01, "The flash, as defined here", where it fixes a reply, and the S25FL256S datasheet
--- (status register 1, read, read id) where it leaves one free.
+-- What the simulated device answers to a word: document 01, "The flash, as defined here", where it fixes a reply. Where it leaves one free,
+-- what the Rust expects of one: the latch in status register 1, the bytes of a read, the codes of an id.
 use Prim.Native.Nat.{ℕ, _+_, _-_, _*_, _%_}
 use mathlib.Core.Bool.{cond}
 use mathlib.Core.List.{List, [], _∷_}
@@ -13,11 +13,11 @@ use Rattle.simulated_device.specs.declared.Chip.{Chip}
 abbrev pub byteAt : List ℕ → ℕ → ℕ → ℕ
 byteAt array base a = cond (ltb a base) 0xFF (getD array (a - base) 0xFF)
 
--- the address behind the command, "high byte first" (datasheet, command protocol)
+-- the address behind the command, high byte first (specs/Words of zedboard_bsp)
 abbrev pub addressIn : List ℕ → ℕ
 addressIn sent = addressOf (getD sent 1 0) (getD sent 2 0) (getD sent 3 0)
 
--- "Status bit 0 shows busy"; bit 1 is the latch (datasheet, status register 1)
+-- "Status bit 0 shows busy"; bit 1 is the latch (specs/Spansion of zedboard_bsp)
 abbrev pub statusOf : Chip → ℕ
 statusOf c = cond (ltb 0 (c .busy)) 0x01 (cond (c .latch) 0x02 0x00)
 
@@ -34,7 +34,7 @@ readReply array base a header words =
     ∷ dataByte array base a header (words % 0x100_0000 * 4 + 3)
     ∷ [])
 
--- 01 02 19, 4D, 01, 80 (datasheet, read id), and "00" as the model
+-- 01, 02 19, 4D, 01, 80 and "00": type, density and sectors are codes that the Rust lists, the other bytes any
 abbrev pub idReply : ℕ → ℕ
 idReply words = cond (eqb words 0) 0x1902_0100 (cond (eqb words 1) 0x3080_014D 0x0000_0030)
 

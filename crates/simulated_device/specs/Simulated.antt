@@ -185,7 +185,7 @@ started t v = cond (isSet 16 v) (record { bytes = t .bytes; written = t .written
 abbrev pub noWork : Work
 noWork = record { there = false; erases = false; target = 0; size = 0; «from» = 0 }
 
--- a program stays in its page of 256 bytes (datasheet, page program)
+-- a program stays in its page of 256 bytes, as in specs/Flash of power_cut
 abbrev pub programming : ℕ → Work
 programming a = record { there = true; erases = false; target = a / 256 * 256; size = 256; «from» = a % 256 }
 

@@ -1,5 +1,5 @@
--- The ids that RDID returns (S25FL256S datasheet, Device ID and Common Flash Interface address map), and refusal 11 of document 01: "byte
--- not listed in the Rust; the byte is returned".
+-- The ids that RDID returns, after the Rust file `zedboard-bsp/src/qspi_spansion.rs`, and refusal 11 of document 01: "byte not listed in
+-- the Rust; the byte is returned".
 use Prim.Native.Nat.{ℕ, _/_, _%_}
 use mathlib.Core.Bool.{Bool, false, cond, _||_}
 use mathlib.Core.List.{List, [], _∷_, _++_}

@@ -1,4 +1,6 @@
--- The S25FL256S: command bytes from the datasheet's command set summary, and the fields of its registers SR1 and CR1.
+-- The S25FL256S: command bytes, and the fields of its registers SR1 and CR1, after the Rust file `zedboard-bsp/src/qspi_spansion.rs`; those
+-- that document 01 names are its own. Names in capitals are the datasheet's as the Rust or memory has
+-- them; it was not at hand.
 use Prim.Native.Nat.{ℕ}
 use mathlib.Core.List.{List, [], _∷_}
 use Rattle.zynq7000.specs.Qspi.{Field, field}

@@ -1,5 +1,5 @@
 -- Bytes on the wire and the words that hold them: document 01, "One transfer, access by access": "Words are written low byte first." A
--- command's address follows it high byte first, in three bytes (S25FL256S datasheet, command protocol).
+-- command's address follows it high byte first, in three bytes: 01's erase of 030000 sends 000003D8.
 use Prim.Native.Nat.{ℕ, _+_, _*_, _/_, _%_, _^_}
 use mathlib.Core.List.{List, [], _∷_}
 use Rattle.zedboard_bsp.specs.Spansion.{commandByte}

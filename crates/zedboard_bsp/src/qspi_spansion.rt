@@ -13,8 +13,8 @@ pub mod device_id;
 pub mod registers;
 pub mod words;
 
-// 4 bytes are reserved for command byte and address. Rounded down at a 16 byte boundary, as the
-// datasheet recommends.
+// 4 bytes are reserved for command byte and address. Rounded down at a 16 byte boundary; the
+// datasheet recommends it, says the Rust.
 pub const MAX_DATA_BYTES_PER_WRITE: usize = 240;
 // Crosses no page boundary and does not exceed the FIFO.
 pub const RECOMMENDED_PROGRAM_PAGE_SIZE: usize = 128;

@@ -1,4 +1,4 @@
--- Bits of a register word, numbered as UG585's register tables number them: bit 0 is the lowest.
+-- Bits of a register word: bit 0 is the lowest.
 use Prim.Native.Nat.{ℕ, _+_, _-_, _*_, _/_, _%_, _^_}
 use mathlib.Core.Bool.{Bool, true, false}
 use lib.Dec.{eqb}

@@ -1,5 +1,6 @@
--- The QSPI block's registers, from UG585, appendix B, module qspi, and document 01, "Modules of the flash path", 1: offsets in hex, and
--- each word as a table of its fields from bit 31 down.
+-- The QSPI block's registers: the offsets of document 01, "Modules of the flash path", 1, in hex, and each word as a table of its fields from
+-- bit 31 down, after the Rust file `zynq7000/src/qspi.rs`. Names in the manual's spelling (Config_reg, PCS) are for finding them in UG585,
+-- which was not at hand.
 use Prim.Native.Nat.{ℕ, _+_, _*_, _%_, _^_}
 use mathlib.Core.List.{List, [], _∷_}
 use Rattle.zynq7000.specs.declared.qspi.Register.{Register}
@@ -47,7 +48,7 @@ divisorOf baud.«_64» = 64
 divisorOf baud.«_128» = 128
 divisorOf baud.«_256» = 256
 
--- LQSPI_CFG, INST_CODE: the flash's read commands (UG585, table 12-3)
+-- LQSPI_CFG, INST_CODE: the flash's read commands, the low byte of 01's preset words
 abbrev pub instructionByte : InstructionCode → ℕ
 instructionByte Read = 0x03
 instructionByte FastRead = 0x0B

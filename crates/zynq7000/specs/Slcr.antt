@@ -1,4 +1,5 @@
--- The clock control word of the QSPI block: UG585, appendix B, module slcr, LQSPI_CLK_CTRL: divisor 13:8, source 5:4, clock active 0.
+-- The clock control word of the QSPI block, LQSPI_CLK_CTRL: "divisor times 256, plus source times 16, plus 1" (document 01, "Modules of the
+-- flash path", 3), with the field widths of the Rust file `zynq7000/src/slcr/clocks.rs`: divisor 13:8, source 5:4, clock active 0.
 use Prim.Native.Nat.{ℕ}
 use mathlib.Core.List.{List, [], _∷_}
 use Rattle.zynq7000.specs.Qspi.{Field, field, assemble}

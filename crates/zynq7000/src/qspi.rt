@@ -1,5 +1,5 @@
 // The registers of the QSPI block: offsets, fields, and a register access with its two log words.
-// The names are those of the Rust module `zynq7000::qspi`; the positions are UG585's, appendix B.
+// Names and positions are those of the Rust module `zynq7000::qspi`.
 ghost use mathlib.Core.Path.{_≡_};
 ghost use Prim.Native.Nat.{_<_};
 ghost use Rattle.zynq7000.specs.Bits.{isSet};

@@ -1,4 +1,4 @@
--- The preset words of document 01, "Modules of the flash path", 2, from the fields of UG585's table 12-3; and the words of I/O mode.
+-- The preset words of document 01, "Modules of the flash path", 2, from the fields of specs/Presets; and the words of I/O mode.
 -- Assumes nothing.
 use Prim.Native.Nat.{ℕ, _+_}
 use mathlib.Core.Path.{_≡_, refl}

@@ -28,7 +28,7 @@ refusalOf error.RefDivOutOfRange = RefDivOutOfRange
 refusalOf error.ZeroClock = ZeroClock
 refusalOf error.TargetTooFast = TargetTooFast
 
--- the baud rate divisor: with loopback it is 2 (UG585, appendix B, LPBK_DLY_ADJ, USE_LPBK)
+-- the baud rate divisor: with loopback it is 2, as in the Rust
 abbrev pub baudOf : BaudRateConfig → BaudRateDivisor
 baudOf WithLoopback = baud.«_2»
 baudOf (WithoutLoopback d) = d

@@ -1,4 +1,5 @@
--- The words of `initialize`: document 01, "Modules of the flash path", 3, and rule 12; the fields are UG585's, appendix B.
+-- The words of `initialize`: document 01, "Modules of the flash path", 3, and rule 12; the fields are those of specs/Qspi
+-- and specs/Slcr of zynq7000.
 use Prim.Native.Nat.{ℕ}
 use mathlib.Core.Bool.{Bool, cond}
 use mathlib.Core.List.{List, [], _∷_}

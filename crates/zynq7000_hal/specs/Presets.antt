@@ -1,4 +1,5 @@
--- The linear mode configurations: UG585, table 12-3, as fields of LQSPI_CFG; document 01, "Modules of the flash path", 2.
+-- The linear mode configurations: the words of document 01, "Modules of the flash path", 2, as fields of LQSPI_CFG. The Rust has them from
+-- UG585, table 12-3.
 use Prim.Native.Nat.{ℕ}
 use mathlib.Core.Bool.{Bool, true, false}
 use Rattle.zynq7000.specs.Bits.{flagValue}
@@ -29,7 +30,7 @@ linearRead i mode dummies two =
       instruction-code = instructionByte i;
     }
 
--- table 12-3: which reads send mode bits, and the dummy bytes of each
+-- which reads send mode bits, and the dummy bytes of each
 abbrev pub sendsMode : InstructionCode → Bool
 sendsMode Read = false
 sendsMode FastRead = false
@@ -54,7 +55,8 @@ preset v i two = linearRead i (sendsMode i) (dummyBytes v i) two
 abbrev pub presetOf : QspiDeviceCombination → Linear
 presetOf d = preset (d .vendor) (d .«operating_mode») (d .«two_devices»)
 
--- I/O mode: no linear reads, the register's reset values for the rest (UG585, appendix B, LQSPI_CFG)
+-- I/O mode: no linear reads; the rest is what the Rust calls the register's reset values. "io mode, one flash: A0 gets 01A002EB; dual
+-- 61A002EB" (01, "Station cases")
 abbrev pub ioModeConfig : Bool → Linear
 ioModeConfig dual =
     record {

@@ -206,8 +206,8 @@ impl Flash {
         self.status | busy | if self.latch { LATCH } else { 0 }
     }
 
-    /// Work that failed leaves the device busy until the status is cleared, as the datasheet has it: the error bit and bit 0
-    /// are then set together.
+    /// Work that failed leaves the device busy until the status is cleared, as the datasheet is recalled: the error bit and
+    /// bit 0 are then set together.
     fn end_work(&mut self) {
         if self.fault != 0 {
             self.status |= self.fault;

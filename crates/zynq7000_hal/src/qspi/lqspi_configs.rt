@@ -1,5 +1,4 @@
-// The linear mode configurations of UG585, table 12-3. The Rust has a constant for each; here one
-// function says them all.
+// The linear mode configurations. The Rust has a constant for each; here one function says them all.
 ghost use mathlib.Core.Path.{_≡_};
 ghost use Prim.Native.Nat.{_*_, _≤_, _<_};
 ghost use Rattle.zynq7000.specs.Qspi.{linearWord};
