@@ -34,19 +34,16 @@ module _ (log : List ℕ) (at : ℕ) where
   pub next-stays : isAccess (entryAt log at) ≡ false → foundAt log at .next ≡ at
   next-stays a = sym (ap (λ (f : Found). f .next) (found-stays (entryAt log at) refl a))
 
--- an entry of one kind is none of another
+  -- of what was found there: the entry is the log's, and behind an access it goes on
+  pub found-there : (f : Found) (e : Entry) → f ≡ foundAt log at → f .entry ≡ e → entryAt log at ≡ e
+  found-there f e h g = sym found-entry ∙ (sym (ap (λ (x : Found). x .entry) h) ∙ g)
+
+  pub found-next : (f : Found) (x : Access) → f ≡ foundAt log at → f .entry ≡ entry.Access x → f .next ≡ at + 1
+  found-next f x h g = ap (λ (y : Found). y .next) h ∙ next-on (ap isAccess (found-there f (entry.Access x) h g))
+
+-- an access is not the end
 pub end-none : (e : Entry) → isAccess e ≡ true → e ≡ entry.End → ⊥
 end-none e a h =
-    let z : _≡_ {A = ℕ} 0 1 = cc in
-    omega arith
-
-pub bad-none : (e : Entry) (k : ℕ) → isAccess e ≡ true → e ≡ entry.BadLog k → ⊥
-bad-none e k a h =
-    let z : _≡_ {A = ℕ} 0 1 = cc in
-    omega arith
-
-pub access-none : (e : Entry) (x : Access) → isAccess e ≡ false → e ≡ entry.Access x → ⊥
-access-none e x a h =
     let z : _≡_ {A = ℕ} 0 1 = cc in
     omega arith
 

@@ -34,13 +34,6 @@ answers e s = (s .0, (e .0 ∙ s .1 .0, e .1 ∙ s .1 .1))
 pub starts : (entries : ℕ → Entry) (first : ℕ) (out : List ℕ) → Rendering entries first out out 0
 starts entries first out = record { within = omega arith; grown = grown-none out (textOf 512 entries first 0); all = refl }
 
--- at the same place under another name
-pub ended : {entries : ℕ → Entry} {first : ℕ} {before out : List ℕ} {at n : ℕ} → Rendering entries first before out at → at ≤ n → n ≤ at
-    → Rendering entries first before out n
-ended {entries} {first} {before} {out} {at} {n} r low high =
-    let here : at ≡ n = omega arith in
-    subst (λ (k : ℕ). Rendering entries first before out k) here r
-
 module _ (entries : ℕ → Entry) (first : ℕ) (before out : List ℕ) (at : ℕ) (r : Rendering entries first before out at) where
   one-more : at < 512 → 512 - at ≡ suc (512 - (at + 1))
   one-more h = omega arith

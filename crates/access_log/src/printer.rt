@@ -1,15 +1,12 @@
 // The text of a log: one line for each access, and `BAD` with the record's number where rule 13 refuses.
 ghost use mathlib.Core.Path.{_≡_};
-ghost use mathlib.Core.Bool.{true};
-ghost use Prim.Native.Nat.{_+_, _%_, _<_, _≤_};
+ghost use Prim.Native.Nat.{_+_, _%_, _≤_};
 ghost use lib.ListN.{length, take};
 ghost use Rattle.io.specs.Counts.{Counts};
-ghost use Rattle.access_log.specs.declared.Entry.the-variants as entry;
-ghost use Rattle.access_log.specs.Log.{isAccess, entryAt, entryIn};
+ghost use Rattle.access_log.specs.Log.{entryAt, entryIn};
 ghost use Rattle.access_log.specs.Text.{hexDigit, decimalUpTo, lineWith, lineOf, badLine, textOf, allAccesses, written, over};
 use crate::Entry;
-use crate::accesses;
-use crate::entry_at;
+use crate::reader::read_at;
 use crate::words::RECORDS;
 use crate::words::WORDS;
 use crate::words::words_in;
@@ -59,52 +56,30 @@ pub fn render_words(log: &[u32], first: u64, out: &mut [u8; ROOM]) -> Rendered
     put_lines(log, first, out)
 }
 
-// `render_words` on a slice that has the room: the lines of the accesses that lead the log, and behind
-// them the line of a record that 13 refuses.
+// `render_words` on a slice that has the room: a line for each entry that a reader of the log gives, up to
+// its end or the line of a record that 13 refuses. Each turn makes the reader anew, where the one before
+// stood: the checker covers no loop that holds one.
 fn put_lines(log: &[u32], first: u64, out: &mut [u8]) -> Rendered
     requires { ⌜ 7200 ≤ length (now out) ⌝ }
     ensures text { λ _. ⌜ now (out .exit) ≡ over (textOf 512 (entryAt (now (log .entry))) first 0) (now (out .entry)) ⌝ }
     ensures len { λ r. ⌜ r .len ≡ length (textOf 512 (entryAt (now (log .entry))) first 0) ⌝ }
     ensures more { λ r. ⌜ r .more ≡ allAccesses 512 (entryAt (now (log .entry))) 0 ⌝ }
 {
-    let count = at_most(accesses(log), RECORDS);
     let mut at: usize = 0;
-    while at < count {
-        put_line(out, at * LINE, access_at(log, at));
-        at += 1;
-    }
-    if count == RECORDS {
-        return Rendered::new(RECORDS * LINE, true);
-    }
-    match entry_at(log, count) {
-        Entry::BadLog(place) => {
-            let number = std::num::wrapping_add_u64(first, place as u64);
-            Rendered::new(put_bad(out, count * LINE, number), false)
+    while at < RECORDS {
+        let found = read_at(log, at);
+        let entry = found.entry;
+        match entry {
+            Entry::Access(access) => put_line(out, at * LINE, access),
+            Entry::End => return Rendered::new(at * LINE, false),
+            Entry::BadLog(place) => {
+                let number = std::num::wrapping_add_u64(first, place as u64);
+                return Rendered::new(put_bad(out, at * LINE, number), false);
+            }
         }
-        Entry::End => Rendered::new(count * LINE, false),
-        // Never: this is the first place that holds no access.
-        Entry::Access(_) => Rendered::new(count * LINE, false),
+        at = found.next;
     }
-}
-
-// The smaller of two numbers.
-fn at_most(n: usize, most: usize) -> usize
-    ensures least { λ r. ⌜ (r ≤ n) × (r ≤ most) ⌝ }
-    ensures same { λ r. ⌜ (r < most → r ≡ n) ⌝ }
-{
-    if n < most { n } else { most }
-}
-
-// The access at a place that holds one: the other arms are never taken.
-fn access_at(log: &[u32], at: usize) -> Access
-    requires { ⌜ isAccess (entryAt (now log) at) ≡ true ⌝ }
-    ensures access { λ r. ⌜ entryAt (now (log .entry)) at ≡ entry.Access r ⌝ }
-{
-    match entry_at(log, at) {
-        Entry::Access(access) => access,
-        Entry::End => Access::Write(0, 0),
-        Entry::BadLog(_) => Access::Write(0, 0),
-    }
+    Rendered::new(RECORDS * LINE, true)
 }
 
 // Writes an access's line.

@@ -51,6 +51,16 @@ impl<'a> LogReader<'a> {
     }
 }
 
+// What a reader that starts at a place gives, and where it stands then.
+pub fn read_at(log: &[u32], at: usize) -> Found
+    ensures read { λ r. ⌜ r ≡ foundAt (now (log .entry)) at ⌝ }
+{
+    let mut reader = LogReader { log, at };
+    let entry = reader.next();
+    let next = reader.at;
+    Found { entry, next }
+}
+
 // How many accesses stand in a log before its end or the first record that 13 refuses.
 pub fn accesses(log: &[u32]) -> usize
     ensures accesses { λ r. ⌜ r ≡ accessesIn (now (log .entry)) ⌝ }
