@@ -369,7 +369,7 @@ fn out_of_range(addr: u32, length: usize) -> bool
     if 0xFF_FFFF < length {
         return true;
     }
-    if 0xFF_FFFF < addr as usize + length {
+    if 0xFF_FFFF < addr as u64 + length as u64 {
         true
     } else {
         false
@@ -427,7 +427,7 @@ pub fn program(addr: u32, data: usize, log: usize) -> Op
     if data % 4 != 0 {
         return over(job, Status::NotAligned);
     }
-    if 256 < addr as usize % 256 + data {
+    if 256 < addr as u64 % 256 + data as u64 {
         return over(job, Status::CrossesPageBoundary);
     }
     going(job, place(Stage::Enable, data as u8, 0, 0))
@@ -467,10 +467,10 @@ pub fn write_pages(addr: u32, data: usize, log: usize) -> Op
 fn spans_too_far(addr: u32, length: usize) -> bool
     ensures span { λ r. ⌜ r ≡ ltb 4294967296 (addr + length) ⌝ }
 {
-    if 0x1_0000_0000 < length {
+    if 0x1_0000_0000 < length as u64 {
         return true;
     }
-    if 0x1_0000_0000 < addr as usize + length {
+    if 0x1_0000_0000 < addr as u64 + length as u64 {
         true
     } else {
         false

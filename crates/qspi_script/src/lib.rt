@@ -268,7 +268,7 @@ pub fn frame(job: Job, place: Place) -> Frame
 fn chunk_address(job: Job, place: Place) -> u32
     ensures address { λ r. ⌜ r ≡ chunkAddress job place ⌝ }
 {
-    std::num::wrapping_add_u32(job.addr, (place.done % 0x1_0000_0000) as u32)
+    std::num::wrapping_add_u32(job.addr, (place.done as u64 % 0x1_0000_0000) as u32)
 }
 
 fn read_word(job: Job, place: Place) -> u32
@@ -311,14 +311,15 @@ fn first_word(job: Job, place: Place) -> u32
 }
 
 // Four bytes of the data, low byte first; past its end 0.
-fn data_word(data: &[u8], at: usize) -> u32
+fn data_word(data: &[u8], at: u64) -> u32
     ensures word { λ r. ⌜ r ≡ dataWord (now («data» .entry)) at ⌝ }
 {
     if data.len() < 4 {
         return 0;
     }
-    if at <= data.len() - 4 {
-        words::data_word(data[at], data[at + 1], data[at + 2], data[at + 3])
+    if at <= (data.len() - 4) as u64 {
+        let i = at as usize;
+        words::data_word(data[i], data[i + 1], data[i + 2], data[i + 3])
     } else {
         0
     }
@@ -329,7 +330,7 @@ fn further_word(place: Place, index: u32, data: &[u8]) -> u32
     ensures word { λ r. ⌜ r ≡ furtherWord place index (now («data» .entry)) ⌝ }
 {
     let stage = place.stage;
-    let at = std::num::wrapping_add_usize(place.done, index as usize * 4);
+    let at = std::num::wrapping_add_u64(place.done as u64, index as u64 * 4);
     match stage {
         Stage::Enable => 0,
         Stage::Disable => 0,

@@ -6,15 +6,15 @@ use Rattle.qspi_script.proofs.further_word.Tie as tie
 use Rattle.qspi_script.proofs.further_word.Reads as reads
 use Rattle.qspi_script.proofs.further_word.Lts as lts
 use Rattle.qspi_script.proofs.data_word.Reads as data-word-reads
-use Rattle.std.proofs.num.wrapping_add_usize.Reads as wrapping-add-usize-reads
+use Rattle.std.proofs.num.wrapping_add_u64.Reads as wrapping-add-u64-reads
 
 -- src/lib.rt:298:55
-mul-wrapping-add-usize : tie.Need-mul-wrapping-add-usize
-mul-wrapping-add-usize c = search needs
+mul-wrapping-add-u64 : tie.Need-mul-wrapping-add-u64
+mul-wrapping-add-u64 c = search needs
 
 -- src/lib.rt:298:9
-wrapping-add-usize-requires : tie.Need-wrapping-add-usize-requires
-wrapping-add-usize-requires c κs = search needs
+wrapping-add-u64-requires : tie.Need-wrapping-add-u64-requires
+wrapping-add-u64-requires c κs = search needs
 
 -- src/lib.rt:300:26
 enum-told : tie.Need-enum-told
@@ -82,70 +82,70 @@ enum-told-15 c = search needs
 
 -- src/lib.rt:294:1
 returns : tie.Need-returns
-returns c = simp (c .enum-told .given .1, c .before .before .wrapping-add-usize .ensures)
+returns c = simp (c .enum-told .given .1, c .before .before .wrapping-add-u64 .ensures)
 
 -- src/lib.rt:294:1
 returns-2 : tie.Need-returns-2
-returns-2 c = simp (c .enum-told2 .given .1, c .before .before .wrapping-add-usize .ensures)
+returns-2 c = simp (c .enum-told2 .given .1, c .before .before .wrapping-add-u64 .ensures)
 
 -- src/lib.rt:294:1
 returns-3 : tie.Need-returns-3
-returns-3 c = simp (c .enum-told3 .given .1, c .before .before .wrapping-add-usize .ensures)
+returns-3 c = simp (c .enum-told3 .given .1, c .before .before .wrapping-add-u64 .ensures)
 
 -- src/lib.rt:294:1
 returns-4 : tie.Need-returns-4
-returns-4 c = simp (c .enum-told4 .given .1, c .before .before .wrapping-add-usize .ensures)
+returns-4 c = simp (c .enum-told4 .given .1, c .before .before .wrapping-add-u64 .ensures)
 
 -- src/lib.rt:294:1
 returns-5 : tie.Need-returns-5
-returns-5 c = simp (c .enum-told5 .given .1, c .before .before .wrapping-add-usize .ensures)
+returns-5 c = simp (c .enum-told5 .given .1, c .before .before .wrapping-add-u64 .ensures)
 
 -- src/lib.rt:294:1
 returns-6 : tie.Need-returns-6
-returns-6 c = simp (c .enum-told6 .given .1, c .before .before .wrapping-add-usize .ensures)
+returns-6 c = simp (c .enum-told6 .given .1, c .before .before .wrapping-add-u64 .ensures)
 
 -- src/lib.rt:294:1
 returns-7 : tie.Need-returns-7
-returns-7 c = simp (c .enum-told7 .given .1, c .before .before .wrapping-add-usize .ensures)
+returns-7 c = simp (c .enum-told7 .given .1, c .before .before .wrapping-add-u64 .ensures)
 
 -- src/lib.rt:294:1
 returns-8 : tie.Need-returns-8
-returns-8 c = simp (c .enum-told8 .given .1, c .before .before .wrapping-add-usize .ensures)
+returns-8 c = simp (c .enum-told8 .given .1, c .before .before .wrapping-add-u64 .ensures)
 
 -- src/lib.rt:294:1
 returns-9 : tie.Need-returns-9
-returns-9 c = simp (c .enum-told9 .given .1, c .before .before .wrapping-add-usize .ensures)
+returns-9 c = simp (c .enum-told9 .given .1, c .before .before .wrapping-add-u64 .ensures)
 
 -- src/lib.rt:294:1
 returns-10 : tie.Need-returns-10
-returns-10 c = simp (c .enum-told10 .given .1, c .before .before .wrapping-add-usize .ensures)
+returns-10 c = simp (c .enum-told10 .given .1, c .before .before .wrapping-add-u64 .ensures)
 
 -- src/lib.rt:294:1
 returns-11 : tie.Need-returns-11
-returns-11 c = simp (c .data-word .ensures, c .before .enum-told11 .given .1, c .before .before .before .wrapping-add-usize .ensures)
+returns-11 c = simp (c .data-word .ensures, c .before .enum-told11 .given .1, c .before .before .before .wrapping-add-u64 .ensures)
 
 -- src/lib.rt:294:1
 returns-12 : tie.Need-returns-12
-returns-12 c = simp (c .enum-told12 .given .1, c .before .before .wrapping-add-usize .ensures)
+returns-12 c = simp (c .enum-told12 .given .1, c .before .before .wrapping-add-u64 .ensures)
 
 -- src/lib.rt:294:1
 returns-13 : tie.Need-returns-13
-returns-13 c = simp (c .enum-told13 .given .1, c .before .before .wrapping-add-usize .ensures)
+returns-13 c = simp (c .enum-told13 .given .1, c .before .before .wrapping-add-u64 .ensures)
 
 -- src/lib.rt:294:1
 returns-14 : tie.Need-returns-14
-returns-14 c = simp (c .enum-told14 .given .1, c .before .before .wrapping-add-usize .ensures)
+returns-14 c = simp (c .enum-told14 .given .1, c .before .before .wrapping-add-u64 .ensures)
 
 -- src/lib.rt:294:1
 returns-15 : tie.Need-returns-15
-returns-15 c = simp (c .enum-told15 .given .1, c .before .before .wrapping-add-usize .ensures)
+returns-15 c = simp (c .enum-told15 .given .1, c .before .before .wrapping-add-u64 .ensures)
 
 pub further-word-spec : {M : Type 1} → statement M
 further-word-spec =
     tie.close
     (tie.spec
-    mul-wrapping-add-usize
-    wrapping-add-usize-requires
+    mul-wrapping-add-u64
+    wrapping-add-u64-requires
     enum-told
     enum-told-2
     enum-told-3
