@@ -26,7 +26,7 @@ use Rattle.qspi_calls.specs.Starts as start
 use Rattle.qspi_calls.proofs.Phases.{words, Same}
 use Rattle.qspi_calls.proofs.Scripted.{Turns, on, over, more, Scripted}
 use Rattle.qspi_calls.proofs.Short.{ended-at-start}
-use Rattle.qspi_calls.proofs.ProgramWords.{length-words, data-word}
+use Rattle.qspi_calls.proofs.ProgramWords.{length-words, data-word, all-prefilled}
 use Rattle.qspi_calls.proofs.Several.{Stages, opens, either, Working, settle-enable, working-scripted}
 use Rattle.qspi_calls.proofs.Tied.{Starts}
 
@@ -139,7 +139,7 @@ module _ (a : ℕ) (bytes log : List ℕ) (range : a + length bytes ≤ 16777215
   page-same d n x then (page f₀ h g e) =
       let l = chunk-length d in
       let m = length-words (chunk d) e in
-      record { port = refl; further = omega (arith, l, m); bytes = omega (arith, l, e); few = omega (arith, l); twice = refl }
+      record { port = refl; further = all-prefilled (pageChunk (length bytes) d) (omega arith) ∙ omega (arith, l, m); bytes = omega (arith, l, e); few = omega (arith, l); twice = refl }
 
   -- a byte of the chunk among the bytes lent
   page-byte : (d i : ℕ) → i < length (chunk d) → getD (chunk d) i 0 ≡ getD bytes (d + i) 0

@@ -1,4 +1,4 @@
--- The data words of `program`: word j of a chunk is read from its bytes 4 j to 4 j + 3 among those lent. Assumes nothing.
+-- The data words of `program`, all of them written before start: word j of a chunk is read from its bytes 4 j to 4 j + 3 among those lent. Assumes nothing.
 use mathlib.Core.Path.{_≡_, refl, ap, _∙_, sym}
 use mathlib.Core.Bool.{Bool, true, false, cond}
 use mathlib.Core.List.{List, [], _∷_}
@@ -7,6 +7,8 @@ use native.Mathlib.Omega.{arith}
 use lib.Dec.{leb, eqb}
 use lib.ListN.{length, getD}
 use borrow.Author.Tests.{le-leb}
+use Rattle.zynq7000_hal.specs.Fifo.{prefilled}
+use Rattle.zedboard_bsp.specs.Limits.{maxDataBytesPerWrite}
 use Rattle.zedboard_bsp.specs.Words.{wordOf}
 use Rattle.qspi_script.specs.Stages.{dataWord}
 use Rattle.qspi_calls.specs.Calls.{wordsOf}
@@ -49,3 +51,7 @@ data-word l c d j there fits same fours h =
     let g₂ = same (j * 4 + 2) (omega arith) in
     let g₃ = same (j * 4 + 3) (omega arith) in
     rw (e, f, p₁, p₂, p₃, ← g₀, ← g₁, ← g₂, ← g₃) (sym (word-at c j (omega arith)))
+
+-- what `program` accepts fits the FIFO: all its words are written before start, and none is left out
+pub all-prefilled : (n : ℕ) → n ≤ maxDataBytesPerWrite → prefilled (n / 4) ≡ n / 4
+all-prefilled n h = omega arith

@@ -19,7 +19,7 @@ use Rattle.zedboard_bsp.specs.Registers.{protected, configuredCr, configuredSr,
 use Rattle.zedboard_bsp.specs.Words.{topByte}
 use Rattle.qspi_transfer.specs.LowLevel.{automatic, manual, chipSelectHigh, started}
 use Rattle.qspi_transfer.specs.Wire.{waits}
-use Rattle.qspi_script.specs.Turns.{largestChunk}
+use Rattle.zedboard_bsp.specs.Limits.{largestChunk}
 use Rattle.qspi_script.specs.declared.Status.{Status}
 use Rattle.qspi_script.specs.declared.Status.the-variants.{Done, EraseErrorBitSet, ProgrammingErrorBitSet}
 use Rattle.qspi_operation.specs.Machine.{Action, write, drain, reply, Midway, first, again, ready, proceed, Want, reads, writes, Transfer, replicate, Script, ends, exchange, State, going, ended, begin, want, next, Result, halt, logging, made, runs, called}

@@ -9,13 +9,15 @@ use lib.ListN.{length, getD, take, drop, length-append, length-drop, length-take
 use lib.Seq.{take-nil, drop-nil}
 use borrow.Author.Tests.{ltb-true, ltb-false, le-leb, lt-leb, eq-eqb, ne-eqb, eqb-true, eqb-false}
 use Rattle.zynq7000.specs.Bits.{flagValue}
+use Rattle.zynq7000_hal.specs.Fifo.{prefilled}
 use Rattle.qspi_transfer.specs.Wire.{wireNext}
 use Rattle.qspi_transfer.specs.declared.Moved.{Moved}
 use Rattle.qspi_transfer.specs.declared.Moved.the-variants.{On, Over}
 use Rattle.qspi_transfer.specs.declared.Phase.the-variants as phase
 use Rattle.qspi_transfer.specs.declared.Wire.{Wire}
 use Rattle.qspi_script.specs.Stages.{frameOf, dueWord}
-use Rattle.qspi_script.specs.Turns.{largestChunk, nextChunk, pick, pickNext, nextRead, readOn, finish, turnOf}
+use Rattle.zedboard_bsp.specs.Limits.{largestChunk}
+use Rattle.qspi_script.specs.Turns.{nextChunk, pick, pickNext, nextRead, readOn, finish, turnOf}
 use Rattle.qspi_script.specs.Turns as turns
 use Rattle.qspi_script.specs.declared.Stage.the-variants as stage
 use Rattle.qspi_script.specs.declared.Status.{Status}
@@ -52,8 +54,8 @@ flag-le : (b : Bool) → flagValue b ≤ 1
 flag-le true = omega arith
 flag-le false = omega arith
 
--- "Prefilling always suffices, so the Rust's refill is never reached": a chunk needs at most 62 words, one less than the FIFO holds
-pub never-refilled : (dummy : Bool) (left : ℕ) → zeroWords dummy (min left (largestChunk dummy)) ≤ 63 - 1
+-- "Prefilling always suffices, so the Rust's refill is never reached": the words written before start are all that a chunk needs
+pub never-refilled : (dummy : Bool) (left : ℕ) → prefilled (zeroWords dummy (min left (largestChunk dummy))) ≡ zeroWords dummy (min left (largestChunk dummy))
 never-refilled true left = omega arith
 never-refilled false left = omega arith
 
@@ -83,7 +85,7 @@ module _ (fast dummy : Bool) (a n : ℕ) (log old : List ℕ) (span : a + n ≤ 
   same : {p : Place} {x : Transfer} {brings : List ℕ → List ℕ} {k : List ℕ → Script} {bs : List ℕ} → ReadAt p x brings k bs → Same (frameOf job p) x
   same (read-at {d = d} h e g) =
       let z = length-zeros (zeroWords dummy (chunk d)) in
-      record { port = refl; further = sym z; bytes = omega arith; few = omega (arith, chunk-le d, flag-le dummy); twice = refl }
+      record { port = refl; further = never-refilled dummy (n - d) ∙ sym z; bytes = omega arith; few = omega (arith, chunk-le d, flag-le dummy); twice = refl }
 
   first-word : (d : ℕ) → d < n → (b : Bool) → cond b (call.readCommand true ((a + d % 2 ^ 32) % 2 ^ 32)) (call.readCommand false ((a + d % 2 ^ 32) % 2 ^ 32)) ≡ readCommand b (a + d)
   first-word d h b = rw e (go b)

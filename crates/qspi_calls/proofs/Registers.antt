@@ -15,7 +15,7 @@ use Rattle.zynq7000.proofs.AccessLaws.{register-aligned}
 use Rattle.zynq7000_hal.specs.Initialize.{loopbackWords}
 use Rattle.zynq7000_hal.specs.declared.qspi.ClockConfig.{ClockConfig}
 use Rattle.zedboard_bsp.specs.Registers.{updateNeeded}
-use Rattle.qspi_script.specs.Turns.{largestChunk}
+use Rattle.zedboard_bsp.specs.Limits.{largestChunk}
 use Rattle.qspi_script.specs.declared.Status.{Status}
 use Rattle.qspi_calls.specs.declared.start.Config.{Config}
 use Rattle.qspi_calls.specs.declared.start.Latency.{Latency}

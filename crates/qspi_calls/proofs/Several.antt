@@ -36,7 +36,7 @@ use Rattle.qspi_calls.proofs.Phases.{wire, words, Same, p-drain}
 use Rattle.qspi_calls.proofs.Scripted.{Turns, on, again, over, Scripted, Rel, rel-on, script-tie, turned, rel-bytes}
 use Rattle.qspi_calls.proofs.Short.{of-one, same-short, word-short, ended-at-start}
 use Rattle.qspi_calls.proofs.Tied.{Starts}
-use Rattle.qspi_calls.proofs.ProgramWords.{length-words, data-word}
+use Rattle.qspi_calls.proofs.ProgramWords.{length-words, data-word, all-prefilled}
 
 -- ---- starting
 
@@ -362,7 +362,7 @@ program-word a n bytes log r few fours (suc j) l =
 
 program-same : (a : ℕ) (bytes log : List ℕ) → length bytes ≤ 240 → length bytes % 4 ≡ 0 → Same (frameAt stage.Program (start.programmingJob a (length bytes) (length log)) (length bytes)) (call.programming a bytes)
 program-same a bytes log few fours =
-    record { port = refl; further = omega (arith, length-words bytes fours); bytes = omega arith; few = omega arith; twice = refl }
+    record { port = refl; further = all-prefilled (length bytes) few ∙ omega (arith, length-words bytes fours); bytes = omega arith; few = omega arith; twice = refl }
 
 pub program : (a : ℕ) (bytes log : List ℕ) → Starts (start.programOf a (length bytes) (length log)) bytes log [] (call.program a bytes)
 program a bytes log =

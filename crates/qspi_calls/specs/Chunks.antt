@@ -2,16 +2,18 @@
 use Prim.Native.Nat.{ℕ, zero, suc, _+_}
 use mathlib.Core.List.{List, [], _∷_}
 use lib.ListN.{length, take, drop}
+use Rattle.zedboard_bsp.specs.Limits.{recommendedProgramPageSize}
 
 pub record Chunk : Type 0 where
   pub address : ℕ
   pub bytes : List ℕ
 
--- 128 bytes a chunk, the last one what is left; there are no more chunks than bytes
+-- as many bytes a chunk as is recommended, the last one what is left; there are no more chunks than bytes
 unfoldable pub chunksIn : ℕ → ℕ → List ℕ → List Chunk
 chunksIn zero a bs = []
 chunksIn (suc n) a [] = []
-chunksIn (suc n) a (b ∷ bs) = record { address = a; bytes = take 128 (b ∷ bs) } ∷ chunksIn n (a + 128) (drop 128 (b ∷ bs))
+chunksIn (suc n) a (b ∷ bs) =
+    record { address = a; bytes = take recommendedProgramPageSize (b ∷ bs) } ∷ chunksIn n (a + recommendedProgramPageSize) (drop recommendedProgramPageSize (b ∷ bs))
 
 unfoldable pub chunks : ℕ → List ℕ → List Chunk
 unfolding chunksIn

@@ -12,6 +12,7 @@ use Rattle.zynq7000_hal.specs.Presets.{ioModeConfig}
 use Rattle.zynq7000_hal.specs.declared.qspi.BaudRateConfig.{BaudRateConfig}
 use Rattle.zynq7000_hal.specs.declared.qspi.BaudRateConfig.the-variants.{WithLoopback, WithoutLoopback}
 use Rattle.zynq7000_hal.specs.declared.qspi.ClockConfig.{ClockConfig}
+use Rattle.zedboard_bsp.specs.Limits.{lastEnd, sectorSize, maxDataBytesPerWrite, pageSize, addressSpan}
 use Rattle.qspi_transfer.specs.Wire.{freshWire}
 use Rattle.qspi_transfer.specs.declared.Phase.the-variants as phase
 use Rattle.qspi_transfer.specs.declared.low_level.Sequence.{Sequence}
@@ -139,8 +140,8 @@ erasingJob a log = workingJob stage.Erase true false status.EraseErrorBitSet a 0
 
 abbrev pub eraseSector : ℕ → ℕ → Op
 eraseSector a log =
-    pick (ltb 16777215 (a + 65536)) (over (erasingJob a log) status.OutOfRange)
-    (pick (eqb (a % 65536) 0) (going (erasingJob a log) (placeAt stage.Enable 0 0 0)) (over (erasingJob a log) status.Alignment))
+    pick (ltb lastEnd (a + sectorSize)) (over (erasingJob a log) status.OutOfRange)
+    (pick (eqb (a % sectorSize) 0) (going (erasingJob a log) (placeAt stage.Enable 0 0 0)) (over (erasingJob a log) status.Alignment))
 
 -- a job of page programs: one of them, or the chunks of `write_pages`
 abbrev pub programsJob : Bool → ℕ → ℕ → ℕ → Job
@@ -151,10 +152,10 @@ programmingJob a n log = programsJob false a n log
 
 abbrev pub programOf : ℕ → ℕ → ℕ → Op
 programOf a n log =
-    pick (ltb 16777215 (a + n)) (over (programmingJob a n log) status.OutOfRange)
-    (pick (ltb 240 n) (over (programmingJob a n log) status.DataTooLarge)
+    pick (ltb lastEnd (a + n)) (over (programmingJob a n log) status.OutOfRange)
+    (pick (ltb maxDataBytesPerWrite n) (over (programmingJob a n log) status.DataTooLarge)
     (pick (eqb (n % 4) 0)
-    (pick (ltb 256 (a % 256 + n)) (over (programmingJob a n log) status.CrossesPageBoundary) (going (programmingJob a n log) (placeAt stage.Enable n 0 0)))
+    (pick (ltb pageSize (a % pageSize + n)) (over (programmingJob a n log) status.CrossesPageBoundary) (going (programmingJob a n log) (placeAt stage.Enable n 0 0)))
     (over (programmingJob a n log) status.NotAligned)))
 
 -- where a turn leads: its first access is due, or none is
@@ -167,11 +168,11 @@ pagingJob a n log = programsJob true a n log
 -- "`write_pages` gives 1 on the whole length first, then cuts into 128 bytes and calls program"
 abbrev pub writePagesOf : ℕ → ℕ → ℕ → Op
 writePagesOf a n log =
-    pick (ltb 16777215 (a + n)) (over (pagingJob a n log) status.OutOfRange) (opened (pagingJob a n log) (nextPage (pagingJob a n log) (placeAt stage.Enable 0 0 0)))
+    pick (ltb lastEnd (a + n)) (over (pagingJob a n log) status.OutOfRange) (opened (pagingJob a n log) (nextPage (pagingJob a n log) (placeAt stage.Enable 0 0 0)))
 
 abbrev pub readOf : ℕ → Bool → Bool → ℕ → ℕ → Op
 readOf a fast dummy n log =
-    pick (ltb 4294967296 (a + n)) (over (readingJob a fast dummy n log) status.AddressSpan)
+    pick (ltb addressSpan (a + n)) (over (readingJob a fast dummy n log) status.AddressSpan)
     (pick (eqb n 0) (over (readingJob a fast dummy n log) status.Done)
     (going (readingJob a fast dummy n log) (placeAt stage.Read (nextChunk n 0 dummy) 0 0)))
 

@@ -2,9 +2,7 @@
 // the Rust's, of `QspiLowLevel` and `QspiSpansionS25Fl256SIoMode`. `log`, `data` and `buffer` are the
 // lengths of the memory that the steps will be lent.
 ghost use mathlib.Core.Path.{_≡_};
-ghost use Prim.Native.Nat.{_+_};
 ghost use mathlib.Core.Bool.{true, false};
-ghost use lib.Dec.{ltb};
 ghost use Rattle.qspi_calls.specs.Starts as spec;
 ghost use Rattle.qspi_calls.specs.Calls as call;
 ghost use Rattle.qspi_calls.specs.Begins.{Begins, BeginsWith, BeginsInto};
@@ -26,6 +24,8 @@ use qspi_script::Turned;
 use qspi_script::Wanted;
 use qspi_transfer::Phase;
 use qspi_transfer::low_level::Sequence;
+use zedboard_bsp::qspi_spansion::SECTOR_SIZE;
+use zedboard_bsp::qspi_spansion::limits;
 use zynq7000_hal::qspi::BaudRateConfig;
 use zynq7000_hal::qspi::ClockConfig;
 use zynq7000_hal::qspi::Initialization;
@@ -362,20 +362,6 @@ fn working(
     }
 }
 
-// addr + length above 16,777,215, the sum taken in full.
-fn out_of_range(addr: u32, length: usize) -> bool
-    ensures range { λ r. ⌜ r ≡ ltb 16777215 (addr + length) ⌝ }
-{
-    if 0xFF_FFFF < length {
-        return true;
-    }
-    if 0xFF_FFFF < addr as u64 + length as u64 {
-        true
-    } else {
-        false
-    }
-}
-
 pub fn erase_sector(addr: u32, log: usize) -> Op
     ensures start { λ r. ⌜ r ≡ spec.eraseSector addr log ⌝ }
     ensures begins { λ r. ⌜ Begins log (call.eraseSector addr) r ⌝ }
@@ -389,13 +375,14 @@ pub fn erase_sector(addr: u32, log: usize) -> Op
         0,
         log,
     );
-    if out_of_range(addr, 0x10000) {
+    if limits::out_of_range(addr, SECTOR_SIZE) {
         return over(job, Status::OutOfRange);
     }
-    if addr % 0x10000 != 0 {
-        return over(job, Status::Alignment);
+    if limits::starts_sector(addr) {
+        going(job, place(Stage::Enable, 0, 0, 0))
+    } else {
+        over(job, Status::Alignment)
     }
-    going(job, place(Stage::Enable, 0, 0, 0))
 }
 
 // Page programs: one of them, or the chunks of `write_pages`.
@@ -418,16 +405,16 @@ pub fn program(addr: u32, data: usize, log: usize) -> Op
     ensures begins { λ r. ⌜ BeginsWith «data» log (call.program addr) r ⌝ }
 {
     let job = programming(false, addr, data, log);
-    if out_of_range(addr, data) {
+    if limits::out_of_range(addr, data) {
         return over(job, Status::OutOfRange);
     }
-    if 240 < data {
+    if limits::too_large(data) {
         return over(job, Status::DataTooLarge);
     }
     if data % 4 != 0 {
         return over(job, Status::NotAligned);
     }
-    if 256 < addr as u64 % 256 + data as u64 {
+    if limits::crosses_page(addr, data) {
         return over(job, Status::CrossesPageBoundary);
     }
     going(job, place(Stage::Enable, data as u8, 0, 0))
@@ -456,25 +443,11 @@ pub fn write_pages(addr: u32, data: usize, log: usize) -> Op
     ensures begins { λ r. ⌜ BeginsWith «data» log (call.writePages addr) r ⌝ }
 {
     let job = programming(true, addr, data, log);
-    if out_of_range(addr, data) {
+    if limits::out_of_range(addr, data) {
         return over(job, Status::OutOfRange);
     }
     let first = qspi_script::next_page(job, place(Stage::Enable, 0, 0, 0));
     opened(job, first)
-}
-
-// addr + length above 4,294,967,296, the sum taken in full.
-fn spans_too_far(addr: u32, length: usize) -> bool
-    ensures span { λ r. ⌜ r ≡ ltb 4294967296 (addr + length) ⌝ }
-{
-    if 0x1_0000_0000 < length as u64 {
-        return true;
-    }
-    if 0x1_0000_0000 < addr as u64 + length as u64 {
-        true
-    } else {
-        false
-    }
 }
 
 fn read(addr: u32, fast: bool, dummy: bool, buffer: usize, log: usize) -> Op
@@ -496,7 +469,7 @@ fn read(addr: u32, fast: bool, dummy: bool, buffer: usize, log: usize) -> Op
         low_level: NO_REGISTERS,
     };
     let chunk = qspi_script::next_chunk(buffer, 0, dummy);
-    if spans_too_far(addr, buffer) {
+    if limits::spans_too_far(addr, buffer) {
         return over(job, Status::AddressSpan);
     }
     if buffer == 0 {

@@ -1,2 +1,1 @@
-pub mod ChunkLaws
 pub mod AnswerLaws

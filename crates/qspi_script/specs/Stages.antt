@@ -6,6 +6,7 @@ use mathlib.Core.List.{List, [], _∷_}
 use lib.Dec.{leb, eqb}
 use lib.ListN.{length, getD}
 use Rattle.zynq7000.specs.Bits.{flagValue}
+use Rattle.zynq7000_hal.specs.Fifo.{prefilled}
 use Rattle.zedboard_bsp.specs.Words.{wordOf, commandOnly, commandWord, writeStatusWord, writeRegistersWord}
 use Rattle.zedboard_bsp.specs.declared.qspi_spansion.RegisterId.the-variants as command
 use Rattle.qspi_transfer.specs.LowLevel.{sequenceMore}
@@ -27,11 +28,11 @@ readWords chunk dummy = (chunk + flagValue dummy + 3) / 4
 
 -- "The reply to the command word is dropped", so there is one reply more
 abbrev pub readFrame : ℕ → Bool → Frame
-readFrame chunk dummy = record { port = 0x1C; words = readWords chunk dummy; bytes = readWords chunk dummy * 4 + 4; twice = true }
+readFrame chunk dummy = record { port = 0x1C; words = prefilled (readWords chunk dummy); bytes = readWords chunk dummy * 4 + 4; twice = true }
 
 -- "the command word and n data words. It then takes n replies"
 abbrev pub programFrame : ℕ → Frame
-programFrame chunk = record { port = 0x1C; words = chunk / 4; bytes = chunk; twice = true }
+programFrame chunk = record { port = 0x1C; words = prefilled (chunk / 4); bytes = chunk; twice = true }
 
 -- "the long form sends two zero words more and takes bytes 1 to 8 of three replies"
 abbrev pub longIdFrame : Frame

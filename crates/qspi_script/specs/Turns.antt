@@ -3,7 +3,8 @@
 use Prim.Native.Nat.{ℕ, _+_, _-_, _%_, _^_, min}
 use mathlib.Core.Bool.{Bool, true, false, cond}
 use lib.Dec.{ltb, eqb}
-use Rattle.zynq7000.specs.Bits.{isSet, flagValue}
+use Rattle.zynq7000.specs.Bits.{isSet}
+use Rattle.zedboard_bsp.specs.Limits.{largestChunk, recommendedProgramPageSize, pageSize}
 use Rattle.zedboard_bsp.specs.Words.{topByte}
 use Rattle.zedboard_bsp.specs.Registers.{protected, configuredCr, configuredSr, updateNeeded}
 use Rattle.qspi_script.specs.declared.Stage.{Stage}
@@ -52,11 +53,7 @@ abbrev pub pick : Bool → Turned → Turned → Turned
 pick true a b = a
 pick false a b = b
 
--- "A read goes in chunks of 248 bytes, 247 with a dummy byte"
-abbrev pub largestChunk : Bool → ℕ
-largestChunk dummy = 248 - flagValue dummy
-
--- what is left, but at most the largest
+-- a read's next chunk: what is left, but at most the largest
 abbrev pub nextChunk : ℕ → ℕ → Bool → ℕ
 nextChunk length done dummy = min (length - done) (largestChunk dummy)
 
@@ -70,12 +67,9 @@ pickNext p = pick (eqb (p .chunk) 0) (finish p Done) (begin p Read)
 abbrev pub readOn : Job → Place → Turned
 readOn job p = pickNext (nextRead job p ((p .done + p .chunk) % 2 ^ 64))
 
--- "`write_pages` .. cuts into 128 bytes and calls program"
-abbrev pub largestPage : ℕ
-largestPage = 128
-
+-- the next chunk of `write_pages`
 abbrev pub pageChunk : ℕ → ℕ → ℕ
-pageChunk length done = min (length - done) largestPage
+pageChunk length done = min (length - done) recommendedProgramPageSize
 
 -- the place of the chunk after the bytes done
 abbrev pub pageAt : Job → Place → Place
@@ -86,7 +80,7 @@ abbrev pub pickPage : Job → Place → Turned
 pickPage job p =
     pick (eqb (p .chunk) 0) (finish p Done)
     (pick (eqb (p .chunk % 4) 0)
-    (pick (ltb 256 (chunkAddress job p % 256 + p .chunk)) (finish p CrossesPageBoundary) (begin p Enable))
+    (pick (ltb pageSize (chunkAddress job p % pageSize + p .chunk)) (finish p CrossesPageBoundary) (begin p Enable))
     (finish p NotAligned))
 
 abbrev pub nextPage : Job → Place → Turned

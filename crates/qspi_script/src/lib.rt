@@ -10,9 +10,11 @@ use qspi_transfer::Frame;
 use qspi_transfer::low_level::Sequence;
 use zedboard_bsp::qspi_spansion::RegisterId;
 use zedboard_bsp::qspi_spansion::StatusRegister1;
+use zedboard_bsp::qspi_spansion::limits;
 use zedboard_bsp::qspi_spansion::registers;
 use zedboard_bsp::qspi_spansion::words;
 use zynq7000::qspi;
+use zynq7000_hal::qspi::prefill;
 
 // What a transfer is for. `Poll` reads the status after program or erase; `Registers` sends nothing;
 // `End` is no transfer.
@@ -189,7 +191,7 @@ fn one_word(port: u8) -> Frame
     }
 }
 
-// How many zero words a read sends after its command.
+// How many zero words a read needs behind its command.
 fn read_words(chunk: u8, dummy: bool) -> u32
     ensures count { λ r. ⌜ (r ≡ readWords chunk dummy) × (r ≤ 65) ⌝ }
 {
@@ -206,7 +208,7 @@ fn read_frame(chunk: u8, dummy: bool) -> Frame
     let words = read_words(chunk, dummy);
     Frame {
         port: qspi::TX_DATA_00,
-        words,
+        words: prefill(words),
         bytes: words * 4 + 4,
         twice: true,
     }
@@ -253,7 +255,7 @@ pub fn frame(job: Job, place: Place) -> Frame
         Stage::Erase => one_word(qspi::TX_DATA_00),
         Stage::Program => Frame {
             port: qspi::TX_DATA_00,
-            words: chunk as u32 / 4,
+            words: prefill(chunk as u32 / 4),
             bytes: chunk as u32,
             twice: true,
         },
@@ -414,23 +416,14 @@ fn with_registers(place: Place, sr: u8, cr: u8) -> Place
     }
 }
 
-// How many bytes the next chunk of a read has: what is left, but at most 248, 247 with a dummy byte.
+// How many bytes the next chunk of a read has.
 pub fn next_chunk(length: usize, done: usize, dummy: bool) -> u8
     ensures chunk { λ r. ⌜ r ≡ nextChunk length done dummy ⌝ }
 {
     if length <= done {
         return 0;
     }
-    if dummy {
-        if length - done < 247 {
-            return (length - done) as u8;
-        }
-        return 247;
-    }
-    if length - done < 248 {
-        return (length - done) as u8;
-    }
-    248
+    limits::read_chunk(length - done, dummy)
 }
 
 // A chunk of a read is done: the next one, or the end.
@@ -455,17 +448,14 @@ fn read_on(job: Job, place: Place) -> Turned
     }
 }
 
-// How many bytes the next chunk of `write_pages` has: what is left, but at most 128.
+// How many bytes the next chunk of `write_pages` has.
 fn page_chunk(length: usize, done: usize) -> u8
     ensures chunk { λ r. ⌜ r ≡ pageChunk length done ⌝ }
 {
     if length <= done {
         return 0;
     }
-    if length - done < 128 {
-        return (length - done) as u8;
-    }
-    128
+    limits::page_chunk(length - done)
 }
 
 // The chunk of `write_pages` after the bytes done: its write enable, or the end, or what `program`
@@ -488,7 +478,7 @@ pub fn next_page(job: Job, place: Place) -> Turned
     if chunk % 4 != 0 {
         return ended(next, Status::NotAligned);
     }
-    if 256 < chunk_address(job, next) % 256 + chunk as u32 {
+    if limits::crosses_page(chunk_address(job, next), chunk as usize) {
         return ended(next, Status::CrossesPageBoundary);
     }
     begun(next, Stage::Enable)

@@ -8,6 +8,7 @@ use lib.Dec.{eqb, ltb, leb}
 use lib.ListN.{length, getD, set, take}
 use lib.Seq.{sets}
 use Rattle.zynq7000.specs.Bits.{isSet, clear}
+use Rattle.zedboard_bsp.specs.Limits.{pageSize, sectorSize}
 use Rattle.zedboard_bsp.specs.Words.{bytesOf}
 use Rattle.power_cut.specs.Controller.{high}
 use Rattle.simulated_device.specs.Replies.{addressIn, replyOf}
@@ -185,12 +186,12 @@ started t v = cond (isSet 16 v) (record { bytes = t .bytes; written = t .written
 abbrev pub noWork : Work
 noWork = record { there = false; erases = false; target = 0; size = 0; «from» = 0 }
 
--- a program stays in its page of 256 bytes, as in specs/Flash of power_cut
+-- a program stays in its page, as in specs/Flash of power_cut
 abbrev pub programming : ℕ → Work
-programming a = record { there = true; erases = false; target = a / 256 * 256; size = 256; «from» = a % 256 }
+programming a = record { there = true; erases = false; target = a / pageSize * pageSize; size = pageSize; «from» = a % pageSize }
 
 abbrev pub erasing : ℕ → Work
-erasing a = record { there = true; erases = true; target = a / 65536 * 65536; size = 65536; «from» = 0 }
+erasing a = record { there = true; erases = true; target = a / sectorSize * sectorSize; size = sectorSize; «from» = 0 }
 
 -- "Page program (02) and sector erase (D8) need the latch"; "A program command without data changes nothing"; "While busy only status read
 -- (05) and clear status (30) are obeyed"
@@ -207,11 +208,15 @@ askedFor c bytes sent =
 abbrev pub within : Work → ℕ → ℕ → Bool
 within w base room = cond (ltb (w .target) base) false (cond (ltb room (w .size)) false (leb (w .target - base) (room - w .size)))
 
+-- where among the bytes sent the one for byte i of a page stands, behind command and address: a program that reaches the end of its page goes on at the page's beginning
+abbrev pub sentFor : ℕ → ℕ → ℕ
+sentFor begun i = (i % pageSize + pageSize - begun % pageSize) % pageSize + 4
+
 -- "each programmed byte is old AND new, each byte of an erased 64 KiB sector is FF": byte i of the target
 abbrev pub doneByte : Work → ℕ → ℕ → ℕ → List ℕ → ℕ
 doneByte w old i bytes sent =
     cond (w .erases) 0xFF
-    (cond (ltb ((i % 256 + 256 - w .«from» % 256) % 256 + 4) bytes) (bitAnd old (getD sent ((i % 256 + 256 - w .«from» % 256) % 256 + 4) 0)) old)
+    (cond (ltb (sentFor (w .«from») i) bytes) (bitAnd old (getD sent (sentFor (w .«from») i) 0)) old)
 
 -- n bytes of the target from its byte i on; it lies at a place of the lent part
 unfoldable pub doneFrom : ℕ → ℕ → Work → ℕ → ℕ → List ℕ → List ℕ → List ℕ

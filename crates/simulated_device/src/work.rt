@@ -8,6 +8,8 @@ use crate::Device;
 use crate::Written;
 use crate::reply;
 use crate::words;
+use zedboard_bsp::qspi_spansion::PAGE_SIZE;
+use zedboard_bsp::qspi_spansion::SECTOR_SIZE;
 
 // What a command asks for: a part of the array, to be erased, or programmed from a place in it on.
 pub struct Work {
@@ -37,9 +39,9 @@ fn programming(address: u32) -> Work
     Work {
         there: true,
         erases: false,
-        target: address / 0x100 * 0x100,
-        size: 0x100,
-        from: (address % 0x100) as usize,
+        target: address / PAGE_SIZE as u32 * PAGE_SIZE as u32,
+        size: PAGE_SIZE,
+        from: (address % PAGE_SIZE as u32) as usize,
     }
 }
 
@@ -49,8 +51,8 @@ fn erasing(address: u32) -> Work
     Work {
         there: true,
         erases: true,
-        target: address / 0x1_0000 * 0x1_0000,
-        size: 0x1_0000,
+        target: address / SECTOR_SIZE as u32 * SECTOR_SIZE as u32,
+        size: SECTOR_SIZE,
         from: 0,
     }
 }
@@ -99,7 +101,7 @@ fn done_byte(w: Work, old: u8, i: usize, bytes: usize, sent: &[u8]) -> u8
     if w.erases {
         return 0xFF;
     }
-    let place = (i % 0x100 + 0x100 - w.from % 0x100) % 0x100 + 4;
+    let place = (i % PAGE_SIZE + PAGE_SIZE - w.from % PAGE_SIZE) % PAGE_SIZE + 4;
     if place < bytes {
         old & reply::sent_at(sent, place)
     } else {

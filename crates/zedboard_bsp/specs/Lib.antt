@@ -1,3 +1,4 @@
+pub mod Limits
 pub mod Spansion
 pub mod Words
 pub mod Registers

@@ -10,6 +10,7 @@ use zynq7000_hal::qspi::QspiDeviceCombination;
 use zynq7000_hal::qspi::QspiVendor;
 
 pub mod device_id;
+pub mod limits;
 pub mod registers;
 pub mod words;
 
@@ -22,6 +23,11 @@ pub const RECOMMENDED_PROGRAM_PAGE_SIZE: usize = 128;
 pub const PAGE_SIZE: usize = 0x100;
 
 pub const SECTOR_SIZE: usize = 0x10000;
+// The largest end that is accepted, the Rust's `u24::MAX`: one below the end of the array
+// (docs/DIFFERENCES.md).
+pub const LAST_END: usize = 0xFF_FFFF;
+// A read may end where 32 bits end.
+pub const ADDRESS_SPAN: u64 = 0x1_0000_0000;
 
 // The ZedBoard's revision F has one such chip.
 pub const QSPI_DEV_COMBINATION_REV_F: QspiDeviceCombination = QspiDeviceCombination {

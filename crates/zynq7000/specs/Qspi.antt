@@ -25,6 +25,10 @@ offsetOf register.TxData10 = 0x84
 offsetOf register.TxData11 = 0x88
 offsetOf register.LinearQspiConfig = 0xA0
 
+-- the block begins at the Rust's `QSPI_BASE_ADDR`
+abbrev pub busAddress : ℕ → ℕ
+busAddress offset = 0xE000D000 + offset
+
 -- ---- codes of fields
 
 -- Config_reg, BAUD_RATE_DIV: the code, and what it divides the reference clock by

@@ -3,7 +3,7 @@
 ghost use mathlib.Core.Path.{_≡_};
 ghost use Prim.Native.Nat.{_<_};
 ghost use Rattle.zynq7000.specs.Bits.{isSet};
-ghost use Rattle.zynq7000.specs.Qspi.{offsetOf, divisorOf, baudCode, instructionByte, lows};
+ghost use Rattle.zynq7000.specs.Qspi.{busAddress, offsetOf, divisorOf, baudCode, instructionByte, lows};
 ghost use Rattle.zynq7000.specs.Qspi.{configTable, interruptStatusTable, spiEnableTable, loopbackTable, linearTable, rxAboveThreshold};
 ghost use Rattle.zynq7000.specs.Access.{firstWord, valueWord, recordOf};
 use crate::bits;
@@ -35,6 +35,13 @@ pub const TX_DATA_10: u8 = 0x84;
 pub const TX_DATA_11: u8 = 0x88;
 
 pub const LINEAR_QSPI_CONFIG: u8 = 0xA0;
+
+// Where the register at an offset stands on the bus.
+pub fn address(offset: u8) -> u32
+    ensures address { λ r. ⌜ r ≡ busAddress offset ⌝ }
+{
+    QSPI_BASE_ADDR + offset as u32
+}
 
 // The registers by name.
 pub enum Register {

@@ -1,3 +1,4 @@
+pub mod Fifo
 pub mod Clocks
 pub mod Presets
 pub mod Initialize

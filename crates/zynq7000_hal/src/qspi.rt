@@ -5,6 +5,7 @@ ghost use Prim.Native.Nat.{_<_};
 ghost use Rattle.zynq7000.specs.Number.{number};
 ghost use Rattle.zynq7000.specs.Qspi.{divisorOf, configWord, linearWord};
 ghost use Rattle.zynq7000.specs.Slcr.{sourceCode, clockControlWord};
+ghost use Rattle.zynq7000_hal.specs.Fifo.{prefilled};
 ghost use Rattle.zynq7000_hal.specs.Clocks.{roundedUp, ladder, refusalOf, answerOf, baudAnswer, calculateAnswer, loopbackAnswer, baudOf};
 ghost use Rattle.zynq7000_hal.specs.Presets.{presetOf, ioModeConfig};
 ghost use Rattle.zynq7000_hal.specs.Initialize.{initialConfig, writtenWords, loopbackWords, initializedAnswer, initializeAnswer};
@@ -19,6 +20,23 @@ use zynq7000::slcr::clocks::SingleCommonPeriphIoClockControl;
 use zynq7000::slcr::clocks::SrcSelIo;
 
 mod lqspi_configs;
+
+// Depth of the TX and RX FIFO in 32 bit words.
+pub const FIFO_DEPTH: usize = 63;
+// A command sequence in I/O mode is limited by the depth of the TX FIFO, 252 bytes.
+pub const MAX_BYTES_PER_TRANSFER_IO_MODE: usize = FIFO_DEPTH * 4;
+
+// How many of the words behind the command word are written before start: all, or until the FIFO is
+// full.
+pub fn prefill(fifo_writes: u32) -> u32
+    ensures count { λ r. ⌜ r ≡ prefilled «fifo_writes» ⌝ }
+{
+    if fifo_writes < FIFO_DEPTH as u32 - 1 {
+        fifo_writes
+    } else {
+        FIFO_DEPTH as u32 - 1
+    }
+}
 
 // Why there is no clock configuration.
 pub enum ClockCalculationError {

@@ -9,7 +9,7 @@ use Rattle.qspi_calls.proofs.start.going.Reads as going-reads
 use Rattle.qspi_calls.proofs.start.over.Reads as over-reads
 use Rattle.qspi_calls.proofs.start.place.Reads as place-reads
 use Rattle.qspi_calls.proofs.start.plain.Reads as plain-reads
-use Rattle.qspi_calls.proofs.start.spans_too_far.Reads as spans-too-far-reads
+use Rattle.zedboard_bsp.proofs.qspi_spansion.limits.spans_too_far.Reads as spans-too-far-reads
 use Rattle.qspi_script.proofs.next_chunk.Reads as next-chunk-reads
 
 -- src/start.rt:62:1

@@ -7,7 +7,7 @@ use Rattle.qspi_calls.proofs.start.write_pages.Tie as tie
 use Rattle.qspi_calls.proofs.start.write_pages.Reads as reads
 use Rattle.qspi_calls.proofs.start.write_pages.Lts as lts
 use Rattle.qspi_calls.proofs.start.opened.Reads as opened-reads
-use Rattle.qspi_calls.proofs.start.out_of_range.Reads as out-of-range-reads
+use Rattle.zedboard_bsp.proofs.qspi_spansion.limits.out_of_range.Reads as out-of-range-reads
 use Rattle.qspi_calls.proofs.start.over.Reads as over-reads
 use Rattle.qspi_calls.proofs.start.place.Reads as place-reads
 use Rattle.qspi_calls.proofs.start.programming.Reads as programming-reads
