@@ -7,6 +7,7 @@ use mathlib.Core.Option.{Option, none, some}
 use mathlib.Core.List.{List, [], _∷_}
 use lib.Bits.{bitAnd}
 use lib.Dec.{eqb, leb, ltb}
+use Rattle.zedboard_bsp.specs.Limits.{pageSize, sectorSize}
 use Rattle.qspi_calls.specs.Chunks.{Chunk}
 
 -- "The array has 16,777,216 bytes": the byte at each address. An address on the wire has 24 bits, so no byte past those is ever reached.
@@ -55,7 +56,7 @@ commandOf (b ∷ bs) =
 -- the address of byte i of a program at a: a program stays in its page of 256 bytes. 01 does not say so, and the driver sends none that
 -- reaches past its page.
 unfoldable pub byteAddress : ℕ → ℕ → ℕ
-byteAddress a i = a / 256 * 256 + (a + i) % 256
+byteAddress a i = a / pageSize * pageSize + (a + i) % pageSize
 
 -- the byte of a program, from its i-th on, that lands on x
 unfoldable pub landsFrom : ℕ → ℕ → List ℕ → ℕ → Option ℕ
@@ -111,7 +112,7 @@ obey m latch clearStatus = flash m latch none
 obey m latch nothing = flash m latch none
 obey m true (pageProgram c) = flash m false (some (programming c))
 obey m false (pageProgram c) = flash m false none
-obey m true (sectorErase a) = flash m false (some (erasing (a / 65536 * 65536) 65536))
+obey m true (sectorErase a) = flash m false (some (erasing (a / sectorSize * sectorSize) sectorSize))
 obey m false (sectorErase a) = flash m false none
 
 -- "A command takes effect when chip select rises." "While busy only status read (05) and clear status (30) are obeyed": neither has an effect

@@ -5,6 +5,7 @@ use mathlib.Core.List.{List, [], _∷_, _++_}
 use lib.Bits.{bitAnd}
 use lib.ListN.{length, getD, take}
 use Rattle.zynq7000.specs.declared.qspi.Access.{Access}
+use Rattle.zedboard_bsp.specs.Limits.{pageSize, recommendedProgramPageSize}
 use Rattle.qspi_script.specs.declared.Status.{Status}
 use Rattle.qspi_script.specs.declared.Status.the-variants.{Done}
 use Rattle.qspi_calls.specs.Chunks.{Chunk, chunks, Among}
@@ -25,7 +26,7 @@ total (c ∷ l) = length (c .bytes) + total l
 -- "at most one chunk, the next, is in doubt, at most 128 bytes within one page": of the chunks in doubt, and those that are not finished
 pub data NextOnly : List Chunk → List Chunk → Type 0 where
   no-doubt : {left : List Chunk} → NextOnly [] left
-  the-next : {c : Chunk} {left : List Chunk} → length (c .bytes) ≤ 128 → c .address % 256 + length (c .bytes) ≤ 256 → NextOnly (c ∷ []) (c ∷ left)
+  the-next : {c : Chunk} {left : List Chunk} → length (c .bytes) ≤ recommendedProgramPageSize → c .address % pageSize + length (c .bytes) ≤ pageSize → NextOnly (c ∷ []) (c ∷ left)
 
 -- ---- the array after a cut, against what the log up to the cut shows
 

@@ -8,6 +8,7 @@ use mathlib.Core.List.{List, [], _∷_, _++_}
 use lib.Dec.{ltb, eqb}
 use lib.ListN.{length, take}
 use Rattle.zynq7000.specs.declared.qspi.Access.{Access}
+use Rattle.zedboard_bsp.specs.Limits.{lastEnd, pageSize}
 use Rattle.qspi_script.specs.declared.Status.{Status}
 use Rattle.qspi_script.specs.declared.Status.the-variants.{Done, OutOfRange, NotAligned, CrossesPageBoundary}
 use Rattle.qspi_operation.specs.Machine.{Result, countIn, called}
@@ -21,7 +22,7 @@ use Rattle.power_cut.specs.Statement.{total}
 
 -- rules 4 and 5 on a chunk
 abbrev pub refusal : Chunk → Option Status
-refusal c = cond (eqb (length (c .bytes) % 4) 0) (cond (ltb 256 (c .address % 256 + length (c .bytes))) (some CrossesPageBoundary) none) (some NotAligned)
+refusal c = cond (eqb (length (c .bytes) % 4) 0) (cond (ltb pageSize (c .address % pageSize + length (c .bytes))) (some CrossesPageBoundary) none) (some NotAligned)
 
 abbrev pub unlessRefused : Option Status → Status → Status
 unlessRefused none later = later
@@ -44,11 +45,11 @@ doneOf (c ∷ l) = andBefore (refusal c) c (doneOf l)
 -- "1 on the whole length first"
 unfoldable pub comesTo : ℕ → List ℕ → Status
 unfolding endOf
-comesTo a bs = cond (ltb 16777215 (a + length bs)) OutOfRange (endOf (chunks a bs))
+comesTo a bs = cond (ltb lastEnd (a + length bs)) OutOfRange (endOf (chunks a bs))
 
 unfoldable pub finishes : ℕ → List ℕ → List Chunk
 unfolding doneOf
-finishes a bs = cond (ltb 16777215 (a + length bs)) [] (doneOf (chunks a bs))
+finishes a bs = cond (ltb lastEnd (a + length bs)) [] (doneOf (chunks a bs))
 
 -- ---- the premises
 

@@ -20,7 +20,8 @@ use Rattle.qspi_transfer.specs.declared.Phase.{Phase}
 use Rattle.qspi_transfer.specs.declared.Phase.the-variants.{DrainStatus, DrainData, OpenRead, OpenWrite, Enable, Send, StartRead, StartWrite, Wait, WaitAgain, Take, CloseRead, CloseWrite, Disable, Registers}
 use Rattle.qspi_transfer.specs.declared.Wire.{Wire}
 use Rattle.qspi_script.specs.Stages.{frameOf, chunkAddress}
-use Rattle.qspi_script.specs.Turns.{turnOf, pick, begin, finish, settled, pageAt, grown, nextPage, nextChunk, largestChunk}
+use Rattle.zedboard_bsp.specs.Limits.{largestChunk}
+use Rattle.qspi_script.specs.Turns.{turnOf, pick, begin, finish, settled, pageAt, grown, nextPage, nextChunk}
 use Rattle.qspi_script.specs.declared.Stage.{Stage}
 use Rattle.qspi_script.specs.declared.Stage.the-variants as stage
 use Rattle.qspi_script.specs.declared.Status.{Status}

@@ -7,6 +7,7 @@ use mathlib.Core.List.{List, [], _∷_, _++_}
 use lib.ListN.{length}
 use Rattle.zynq7000.specs.Bits.{isSet}
 use Rattle.zynq7000.specs.declared.qspi.Access.{Access}
+use Rattle.zedboard_bsp.specs.Limits.{lastEnd, maxDataBytesPerWrite, pageSize}
 use Rattle.qspi_operation.specs.Machine.{Transfer}
 use Rattle.qspi_operation.specs.Whole.{Whole}
 use Rattle.qspi_calls.specs.Chunks.{Chunk, chunks}
@@ -56,10 +57,10 @@ pub record Fails (bit : ℕ) (x : Transfer) (log : List Access) : Type 0 where
 
 -- none of the rules of `program` applies
 pub record Accepted (c : Chunk) : Type 0 where
-  pub range : c .address + length (c .bytes) ≤ 16777215
-  pub small : length (c .bytes) ≤ 240
+  pub range : c .address + length (c .bytes) ≤ lastEnd
+  pub small : length (c .bytes) ≤ maxDataBytesPerWrite
   pub fours : length (c .bytes) % 4 ≡ 0
-  pub page : c .address % 256 + length (c .bytes) ≤ 256
+  pub page : c .address % pageSize + length (c .bytes) ≤ pageSize
 
 -- chunks that are finished one after the other, by their accesses
 pub data Finished : List Chunk → List Access → Type 0 where
