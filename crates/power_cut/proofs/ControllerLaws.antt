@@ -106,11 +106,46 @@ module _ (c : ℕ) (t u : List (List ℕ)) (w r : List ℕ) (f : Flash) where
   unfolding effect afterWrite configured registerAt
   stays-high v e h s = rw (e, h, s)
 
-  -- ---- SPI enable does nothing to the words or to the flash
+  -- ---- no other access does anything to words or flash, and a read of another register gives anything
 
   pub enable-keeps : (v : ℕ) → effect (device c t u w r f) (access.Write 0x14 v) ≡ device c t u w r f
   unfolding effect afterWrite registerAt
   enable-keeps v = refl
+
+  pub status-written-keeps : (v : ℕ) → effect (device c t u w r f) (access.Write 0x04 v) ≡ device c t u w r f
+  unfolding effect afterWrite registerAt
+  status-written-keeps v = refl
+
+  pub rx-written-keeps : (v : ℕ) → effect (device c t u w r f) (access.Write 0x20 v) ≡ device c t u w r f
+  unfolding effect afterWrite registerAt
+  rx-written-keeps v = refl
+
+  pub config-read-keeps : (v : ℕ) → effect (device c t u w r f) (access.Read 0x00 v) ≡ device c t u w r f
+  unfolding effect afterRead registerAt
+  config-read-keeps v = refl
+
+  abbrev Free : ℕ → ℕ → Type 0
+  Free o v = Gives (device c t u w r f) (access.Read o v) × (effect (device c t u w r f) (access.Read o v) ≡ device c t u w r f)
+
+  pub enable-read-free : (v : ℕ) → Free 0x14 v
+  unfolding effect afterRead Gives GivenBy registerAt
+  enable-read-free v = (tt, refl)
+
+  pub port-read-free : (p : Port) (v : ℕ) → Free (offsetOf p) v
+  unfolding effect afterRead Gives GivenBy registerAt
+  port-read-free one v = (tt, refl)
+  port-read-free two v = (tt, refl)
+  port-read-free three v = (tt, refl)
+  port-read-free four v = (tt, refl)
+
+  pub elsewhere : (o v : ℕ) → eqb o 0x00 ≡ false → eqb o 0x04 ≡ false → eqb o 0x14 ≡ false → eqb o 0x20 ≡ false → eqb o 0x1C ≡ false → eqb o 0x80 ≡ false → eqb o 0x84 ≡ false → eqb o 0x88 ≡ false
+      → Free o v × (effect (device c t u w r f) (access.Write o v) ≡ device c t u w r f)
+  unfolding effect afterRead afterWrite Gives GivenBy registerAt
+  elsewhere o v e₁ e₂ e₃ e₄ e₅ e₆ e₇ e₈ =
+      let g : Gives (device c t u w r f) (access.Read o v) = rw (e₁, e₂, e₃, e₄, e₅, e₆, e₇, e₈) tt in
+      let x : effect (device c t u w r f) (access.Read o v) ≡ device c t u w r f = rw (e₁, e₂, e₃, e₄, e₅, e₆, e₇, e₈) in
+      let y : effect (device c t u w r f) (access.Write o v) ≡ device c t u w r f = rw (e₁, e₂, e₃, e₄, e₅, e₆, e₇, e₈) in
+      ((g, x), y)
 
 -- ---- the bits of a status reply: "Status bit 0 shows busy", "the error bit (6 for program, 5 for erase)", of the top byte
 

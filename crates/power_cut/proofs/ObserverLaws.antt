@@ -11,9 +11,9 @@ use Rattle.zynq7000.specs.Bits.{isSet}
 use Rattle.zynq7000.specs.declared.qspi.Access.the-variants.{Read, Write}
 use Rattle.zedboard_bsp.specs.Words.{topByte}
 use Rattle.qspi_calls.specs.Chunks.{Chunk}
-use Rattle.power_cut.specs.Flash.{pageProgram, commandOf, programOf, eraseOf}
+use Rattle.power_cut.specs.Flash.{Command, writeEnable, writeDisable, statusRead, clearStatus, nothing, pageProgram, sectorErase, commandOf, programOf, eraseOf}
 use Rattle.power_cut.specs.Controller.{registerAt, bytesOut, isStatusRead}
-use Rattle.power_cut.specs.Observer.{Transfer, closed, opened, unread, Observed, raised, configWritten, isClean, closing, enableWritten, seenWrite, seenRead, see, sees, observed}
+use Rattle.power_cut.specs.Observer.{Transfer, closed, opened, unread, Observed, named, raised, configWritten, isClean, closing, enableWritten, seenWrite, seenRead, see, sees, observed}
 
 -- ---- "error bit and bit 0 clear"
 
@@ -97,10 +97,14 @@ not-looked-at o offset v e₁ e₂ e₃ e₄ e₅ e₆ e₇ = go (eqb offset 0x0
     go true e = (rw (e₁, e), rw (e₁, e))
     go false e = (rw (e₁, e, e₂, e₃, e₄, e₅, e₆, e₇), rw (e₁, e, e₂, e₃, e₄, e₅, e₆, e₇))
 
--- nor does a read of config, of SPI enable or of a TX register
+-- nor does a read of config, of SPI enable or of a TX register, or a write of RX data
 pub read-keeps : (o : Observed) (v : ℕ) → (see o (Read 0x00 v) ≡ o) × ((see o (Read 0x14 v) ≡ o) × (see o (Read 0x1C v) ≡ o))
 unfolding see seenRead registerAt
 read-keeps o v = (refl, (refl, refl))
+
+pub rx-written-keeps : (o : Observed) (v : ℕ) → see o (Write 0x20 v) ≡ o
+unfolding see seenWrite registerAt
+rx-written-keeps o v = refl
 
 -- ---- a transfer closes
 
@@ -117,6 +121,11 @@ module _ (t : Transfer) (h : Bool) (q k : List Chunk) where
   unfolding see seenWrite enableWritten closing registerAt
   unclean-keeps e = rw e
 
+  -- where none is open nothing is finished
+  pub none-open : see (record { transfer = closed; up = h; doubt = q; finished = k }) (Write 0x14 0) ≡ record { transfer = closed; up = h; doubt = q; finished = k }
+  unfolding see seenWrite enableWritten closing isClean registerAt
+  none-open = refl
+
   pub opens-unread : (v : ℕ) → see shows (Write 0x14 (suc v)) ≡ record { transfer = opened [] unread; up = h; doubt = q; finished = k }
   unfolding see seenWrite enableWritten registerAt
   opens-unread v = refl
@@ -129,6 +138,26 @@ module _ (sent : List ℕ) (reply v : ℕ) (q k : List Chunk) where
       → see (record { transfer = opened sent reply; up = false; doubt = q; finished = k }) (Write 0x00 v) ≡ record { transfer = opened sent reply; up = true; doubt = q ++ c ∷ []; finished = k }
   unfolding see seenWrite configWritten raised registerAt
   rise-doubts c e n = rw (e, n)
+
+  -- another command leaves those that are
+  pub rise-of-another : isSet 10 v ≡ true → ((c : Chunk) → commandOf sent ≡ pageProgram c → ⊥)
+      → see (record { transfer = opened sent reply; up = false; doubt = q; finished = k }) (Write 0x00 v) ≡ record { transfer = opened sent reply; up = true; doubt = q; finished = k }
+  unfolding see seenWrite configWritten raised registerAt
+  rise-of-another e n = rw (e, unnamed (commandOf sent) n)
+    where
+      unnamed : (x : Command) → ((c : Chunk) → x ≡ pageProgram c → ⊥) → named x q ≡ q
+      unnamed writeEnable m = refl
+      unnamed writeDisable m = refl
+      unnamed statusRead m = refl
+      unnamed clearStatus m = refl
+      unnamed nothing m = refl
+      unnamed (pageProgram c) m = absurd (m c refl)
+      unnamed (sectorErase a) m = refl
+
+  -- and so does chip select outside a transfer
+  pub rise-outside : isSet 10 v ≡ true → see (record { transfer = closed; up = false; doubt = q; finished = k }) (Write 0x00 v) ≡ record { transfer = closed; up = true; doubt = q; finished = k }
+  unfolding see seenWrite configWritten raised registerAt
+  rise-outside e = rw e
 
   -- before it rises nothing is
   pub low-keeps : (h : Bool) → isSet 10 v ≡ false
