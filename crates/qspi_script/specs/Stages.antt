@@ -22,17 +22,21 @@ use Rattle.qspi_script.specs.declared.Place.{Place}
 abbrev pub oneWord : ℕ → Frame
 oneWord port = record { port = port; words = 0; bytes = 4; twice = false }
 
+-- words of four bytes, "each reply after two such status reads"
+abbrev pub dataFrame : ℕ → ℕ → Frame
+dataFrame words bytes = record { port = 0x1C; words = words; bytes = bytes; twice = true }
+
 -- the chunk and the dummy byte in words, rounded up
 abbrev pub readWords : ℕ → Bool → ℕ
 readWords chunk dummy = (chunk + flagValue dummy + 3) / 4
 
 -- "The reply to the command word is dropped", so there is one reply more
 abbrev pub readFrame : ℕ → Bool → Frame
-readFrame chunk dummy = record { port = 0x1C; words = prefilled (readWords chunk dummy); bytes = readWords chunk dummy * 4 + 4; twice = true }
+readFrame chunk dummy = dataFrame (prefilled (readWords chunk dummy)) (readWords chunk dummy * 4 + 4)
 
 -- "the command word and n data words. It then takes n replies"
 abbrev pub programFrame : ℕ → Frame
-programFrame chunk = record { port = 0x1C; words = prefilled (chunk / 4); bytes = chunk; twice = true }
+programFrame chunk = dataFrame (prefilled (chunk / 4)) chunk
 
 -- "the long form sends two zero words more and takes bytes 1 to 8 of three replies"
 abbrev pub longIdFrame : Frame

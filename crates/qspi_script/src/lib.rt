@@ -4,7 +4,7 @@ ghost use mathlib.Core.Path.{_≡_};
 ghost use Prim.Native.Nat.{_≤_};
 ghost use mathlib.Core.List.{[]};
 ghost use Rattle.qspi_script.specs.Answer.{saidBy, numberIn, orElse};
-ghost use Rattle.qspi_script.specs.Stages.{oneWord, readWords, readFrame, registersFrame, frameOf, chunkAddress, readWord, firstWord, dataWord, furtherWord, dueWord};
+ghost use Rattle.qspi_script.specs.Stages.{oneWord, dataFrame, readWords, readFrame, programFrame, registersFrame, frameOf, chunkAddress, readWord, firstWord, dataWord, furtherWord, dueWord};
 ghost use Rattle.qspi_script.specs.Turns.{statusOf, begin, finish, withRegisters, nextChunk, readOn, pageChunk, nextPage, settled, failed, polled, configured, protecting, statusRead, configRead, turnOf};
 use qspi_transfer::Frame;
 use qspi_transfer::low_level::Sequence;
@@ -191,6 +191,19 @@ fn one_word(port: u8) -> Frame
     }
 }
 
+// So many words of four bytes behind the first, so many bytes of replies, each reply after two status
+// reads.
+fn data_frame(words: u32, bytes: u32) -> Frame
+    ensures frame { λ r. ⌜ r ≡ dataFrame words bytes ⌝ }
+{
+    Frame {
+        port: qspi::TX_DATA_00,
+        words,
+        bytes,
+        twice: true,
+    }
+}
+
 // How many zero words a read needs behind its command.
 fn read_words(chunk: u8, dummy: bool) -> u32
     ensures count { λ r. ⌜ (r ≡ readWords chunk dummy) × (r ≤ 65) ⌝ }
@@ -206,12 +219,15 @@ fn read_frame(chunk: u8, dummy: bool) -> Frame
     ensures frame { λ r. ⌜ r ≡ readFrame chunk dummy ⌝ }
 {
     let words = read_words(chunk, dummy);
-    Frame {
-        port: qspi::TX_DATA_00,
-        words: prefill(words),
-        bytes: words * 4 + 4,
-        twice: true,
-    }
+    data_frame(prefill(words), words * 4 + 4)
+}
+
+// As many replies as data words: the last one is left.
+fn program_frame(chunk: u8) -> Frame
+    ensures frame { λ r. ⌜ r ≡ programFrame chunk ⌝ }
+{
+    let bytes = chunk as u32;
+    data_frame(prefill(bytes / 4), bytes)
 }
 
 // No word and no reply: only the count of accesses.
@@ -253,12 +269,7 @@ pub fn frame(job: Job, place: Place) -> Frame
             twice: false,
         },
         Stage::Erase => one_word(qspi::TX_DATA_00),
-        Stage::Program => Frame {
-            port: qspi::TX_DATA_00,
-            words: prefill(chunk as u32 / 4),
-            bytes: chunk as u32,
-            twice: true,
-        },
+        Stage::Program => program_frame(chunk),
         Stage::Poll => one_word(qspi::TX_DATA_10),
         Stage::Read => read_frame(chunk, dummy),
         Stage::Registers => registers_frame(job),
@@ -464,7 +475,8 @@ pub fn next_page(job: Job, place: Place) -> Turned
     ensures turned { λ r. ⌜ r ≡ nextPage job place ⌝ }
 {
     let lent = job.lent;
-    let chunk = page_chunk(lent.data, place.done);
+    let data = lent.data;
+    let chunk = page_chunk(data, place.done);
     let next = Place {
         stage: Stage::Enable,
         done: place.done,
