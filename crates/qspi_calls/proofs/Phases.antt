@@ -1,6 +1,6 @@
 -- One transfer by its counters is the transfer over lists: the same access is due, and every access keeps the two together. Assumes
 -- nothing.
-use mathlib.Core.Path.{_≡_, refl, ap, _∙_, sym}
+use mathlib.Core.Path.{_≡_, refl, _∙_, sym}
 use mathlib.Core.Bool.{Bool, true, false, cond}
 use mathlib.Core.List.{List, [], _∷_, _++_, map, reverse}
 use Prim.Native.Nat.{ℕ, zero, suc, _+_, _-_, _*_, _%_, _^_, _≤_, _<_}
@@ -10,7 +10,7 @@ use lib.ListN.{length, getD, drop, drop-of-length-le}
 use lib.Seq.{drop-cons}
 use borrow.Author.Tests.{ltb-true, ltb-false, lt-ltb, le-ltb}
 use Rattle.qspi_transfer.specs.LowLevel.{chipSelectHigh, chipSelectLow, started}
-use Rattle.qspi_transfer.specs.Wire.{choose, waits, atPhase, configRead, pickWire, anotherSent, wordSent, four-more, replyTaken, wireNext, nextAt}
+use Rattle.qspi_transfer.specs.Wire.{choose, waits, atPhase, pickWire, anotherSent, wordSent, replyTaken, wireNext}
 use Rattle.qspi_transfer.specs.declared.Frame.{Frame}
 use Rattle.qspi_transfer.specs.declared.Moved.{Moved}
 use Rattle.qspi_transfer.specs.declared.Moved.the-variants.{On, Over}
@@ -21,7 +21,7 @@ use Rattle.qspi_script.specs.Stages.{frameOf, dueWord}
 use Rattle.qspi_script.specs.declared.Job.{Job}
 use Rattle.qspi_script.specs.declared.Place.{Place}
 use Rattle.qspi_operation.specs.Step.{accessOf}
-use Rattle.qspi_operation.specs.Machine.{Action, write, modify, drain, reply, Midway, first, full, changed, again, ready, wantAt, Progress, stays, over, takes, progress, Transfer, replicate, closing, replying, opening, Script, State, going, moves, proceed, begin}
+use Rattle.qspi_operation.specs.Machine.{Action, write, modify, drain, reply, Midway, first, full, changed, again, ready, wantAt, stays, over, progress, Transfer, replicate, closing, replying, opening, Script, State, going, moves, proceed, begin}
 use Rattle.qspi_calls.proofs.Tied.{asked}
 
 abbrev pub wire : Phase → ℕ → ℕ → ℕ → List ℕ → Wire

@@ -1,5 +1,5 @@
 -- On prompt replies the log of a call is a plain list: its transfers one after the other. Assumes nothing.
-use mathlib.Core.Path.{_≡_, refl, ap, _∙_, sym}
+use mathlib.Core.Path.{_≡_, refl, ap, _∙_}
 use mathlib.Core.Bool.{Bool, true, false, cond, not, _&&_, _||_}
 use mathlib.Core.List.{List, [], _∷_, _++_, map, reverse, reverseAux, reverse-reverse, append-nil}
 use Prim.Native.Nat.{ℕ, zero, suc, _+_, _-_, _/_, _%_, min}
@@ -21,8 +21,8 @@ use Rattle.qspi_transfer.specs.LowLevel.{automatic, manual, chipSelectHigh, sta
 use Rattle.qspi_transfer.specs.Wire.{waits}
 use Rattle.zedboard_bsp.specs.Limits.{largestChunk}
 use Rattle.qspi_script.specs.declared.Status.{Status}
-use Rattle.qspi_script.specs.declared.Status.the-variants.{Done, EraseErrorBitSet, ProgrammingErrorBitSet}
-use Rattle.qspi_operation.specs.Machine.{Action, write, drain, reply, Midway, first, again, ready, proceed, Want, reads, writes, Transfer, replicate, Script, ends, exchange, State, going, ended, begin, want, next, Result, halt, logging, made, runs, called}
+use Rattle.qspi_script.specs.declared.Status.the-variants.{Done, ProgrammingErrorBitSet}
+use Rattle.qspi_operation.specs.Machine.{Action, write, drain, reply, first, again, ready, proceed, reads, writes, Transfer, replicate, Script, ends, exchange, State, going, ended, begin, want, next, runs, called}
 use Rattle.qspi_calls.specs.Chunks.{Chunk, chunks}
 use Rattle.qspi_operation.specs.Machine as machine
 use Rattle.qspi_calls.specs.Calls as call

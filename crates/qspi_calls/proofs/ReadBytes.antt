@@ -3,17 +3,17 @@
 use mathlib.Core.Path.{_≡_, refl, ap, _∙_, sym}
 use mathlib.Core.Bool.{Bool, true, false}
 use mathlib.Core.List.{List, [], _∷_, _++_, reverse, reverse-cons, append-assoc, append-nil}
-use Prim.Native.Nat.{ℕ, zero, suc, _+_, _-_, _*_, _/_, _%_, _^_, _≤_, _<_}
+use Prim.Native.Nat.{ℕ, suc, _+_, _-_, _*_, _/_, _%_, _^_, _≤_, _<_}
 use native.Mathlib.Omega.{arith}
 use lib.Dec.{ltb, leb}
-use lib.ListN.{length, getD, take, drop, set, length-append, length-drop, length-take, length-reverse, drop-of-length-le}
-use lib.Seq.{take-all, take-nil, drop-nil, drop-cons, take-append-le, drop-append-le, set-at}
+use lib.ListN.{length, getD, take, drop, set, length-append, length-drop, length-reverse, drop-of-length-le}
+use lib.Seq.{take-all, drop-cons, take-append-le, drop-append-le, set-at}
 use borrow.Author.Tests.{leb-true, leb-false, ltb-true, ltb-false}
 use Rattle.zedboard_bsp.specs.Words.{bytesOf}
 use Rattle.qspi_script.specs.declared.Place.{Place}
 use Rattle.qspi_operation.specs.Store.{when, storeByte, storeReply}
 use Rattle.qspi_operation.specs.Machine.{overlaid}
-use Rattle.qspi_calls.specs.Calls.{bytesOfAll, bytesRead}
+use Rattle.qspi_calls.specs.Calls.{bytesOfAll}
 
 snoc-all : (l : List ℕ) (v : ℕ) → bytesOfAll (l ++ v ∷ []) ≡ bytesOfAll l ++ bytesOf v
 snoc-all [] v = append-nil (bytesOf v)

@@ -2,36 +2,32 @@
 use mathlib.Core.Path.{_≡_, refl, ap, _∙_, sym}
 use mathlib.Core.Bool.{Bool, true, false, cond}
 use mathlib.Core.List.{List, [], _∷_, _++_, map, reverse, append-nil}
-use Prim.Native.Nat.{ℕ, zero, suc, _+_, _-_, _*_, _/_, _%_, _^_, _≤_, _<_, min}
+use Prim.Native.Nat.{ℕ, zero, suc, _+_, _-_, _*_, _%_, _^_, _≤_, _<_, min}
 use native.Mathlib.Omega.{arith}
 use lib.Dec.{ltb, leb, eqb}
 use lib.ListN.{length, getD, take, drop, length-append, length-drop, length-take, length-reverse}
 use lib.Seq.{take-nil, drop-nil}
-use borrow.Author.Tests.{ltb-true, ltb-false, le-leb, lt-leb, eq-eqb, ne-eqb, eqb-true, eqb-false}
+use borrow.Author.Tests.{ltb-false, le-leb, lt-leb, eq-eqb, ne-eqb, eqb-true, eqb-false}
 use Rattle.zynq7000.specs.Bits.{flagValue}
 use Rattle.zynq7000_hal.specs.Fifo.{prefilled}
-use Rattle.qspi_transfer.specs.Wire.{wireNext}
 use Rattle.qspi_transfer.specs.declared.Moved.{Moved}
-use Rattle.qspi_transfer.specs.declared.Moved.the-variants.{On, Over}
 use Rattle.qspi_transfer.specs.declared.Phase.the-variants as phase
 use Rattle.qspi_transfer.specs.declared.Wire.{Wire}
 use Rattle.qspi_script.specs.Stages.{frameOf, dueWord}
 use Rattle.zedboard_bsp.specs.Limits.{largestChunk}
-use Rattle.qspi_script.specs.Turns.{nextChunk, pick, pickNext, nextRead, readOn, finish, turnOf}
-use Rattle.qspi_script.specs.Turns as turns
+use Rattle.qspi_script.specs.Turns.{nextChunk, pick, pickNext, readOn, finish}
 use Rattle.qspi_script.specs.declared.Stage.the-variants as stage
 use Rattle.qspi_script.specs.declared.Status.{Status}
 use Rattle.qspi_script.specs.declared.Status.the-variants.{Going, Done, AddressSpan}
 use Rattle.qspi_script.specs.Answer.{saidBy}
 use Rattle.qspi_script.specs.declared.Job.{Job}
 use Rattle.qspi_script.specs.declared.Place.{Place}
-use Rattle.qspi_script.specs.declared.Turned.{Turned}
 use Rattle.qspi_operation.specs.declared.Op.{Op}
-use Rattle.qspi_operation.specs.Store.{stored, skipped, storeReply}
+use Rattle.qspi_operation.specs.Store.{stored}
 use Rattle.qspi_operation.specs.Step.{isGoing, accessOf, movedBy, turnedTo}
 use Rattle.qspi_operation.proofs.Verdicts.{no}
 use Rattle.qspi_transfer.specs.Wire.{waits, freshWire}
-use Rattle.qspi_operation.specs.Machine.{Action, write, drain, reply, Midway, first, full, again, ready, stays, over, replicate, closing, replying, proceed, Want, nothing, progress, Transfer, Script, ends, perform, State, going, ended, onward, begin, moves, want, next, statusIn, valuesIn, bytesIn, countIn, overlaid}
+use Rattle.qspi_operation.specs.Machine.{Action, write, drain, reply, Midway, first, full, again, ready, stays, over, replicate, closing, replying, proceed, nothing, Transfer, Script, State, going, ended, onward, begin, moves, want, next, statusIn, valuesIn, bytesIn, countIn, overlaid}
 use Rattle.qspi_calls.specs.Calls as call
 use Rattle.qspi_calls.specs.Calls.{zeros, zeroWords, reading, readCommand, bytesOfAll, bytesRead, readFrom, refused}
 use Rattle.qspi_calls.specs.Starts as start

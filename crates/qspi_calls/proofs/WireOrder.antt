@@ -2,11 +2,11 @@
 -- Assumes nothing.
 use mathlib.Core.Path.{_≡_, refl, ap, _∙_}
 use mathlib.Core.List.{List, [], _∷_, _++_}
-use Prim.Native.Nat.{ℕ, zero, suc, _%_, _<_}
+use Prim.Native.Nat.{ℕ, _%_, _<_}
 use native.Mathlib.Omega.{arith}
 use lib.ListN.{length}
 use Rattle.zedboard_bsp.specs.Spansion.{commandByte}
-use Rattle.zedboard_bsp.specs.Words.{addressBytes, bytesOf}
+use Rattle.zedboard_bsp.specs.Words.{addressBytes}
 use Rattle.zedboard_bsp.specs.declared.qspi_spansion.RegisterId.the-variants as command
 use Rattle.zedboard_bsp.proofs.WireBytes.{read-back, command-bytes}
 use Rattle.qspi_operation.specs.Machine.{Transfer}

@@ -1,14 +1,13 @@
 -- Four stores one after the other are the store of a reply, and that is what taking a reply of a read does. Assumes nothing.
 use Prim.Native.Nat.{ℕ, _+_, _-_, _/_, _%_, _≤_}
-use mathlib.Core.Path.{_≡_, refl, sym, _∙_}
+use mathlib.Core.Path.{_≡_, sym, _∙_}
 use mathlib.Core.Bool.{Bool, true}
 use mathlib.Core.List.{List}
-use lib.Dec.{leb}
 use borrow.Author.Tests.{le-leb}
 use Rattle.qspi_transfer.specs.declared.Wire.{Wire}
 use Rattle.qspi_script.specs.declared.Job.{Job}
 use Rattle.qspi_script.specs.declared.Place.{Place}
-use Rattle.qspi_operation.specs.Store.{when, storeByte, storeReply, isTaking, isReading, skipped, stored}
+use Rattle.qspi_operation.specs.Store.{storeByte, storeReply, isTaking, isReading, skipped, stored}
 
 pub four : (s : List ℕ) {s₁ s₂ s₃ s₄ : List ℕ} (p : Place) (d i w : ℕ) {b₀ b₁ b₂ b₃ : ℕ} → b₀ ≡ w % 256 → b₁ ≡ w / 256 % 256 → b₂ ≡ w / 65536 % 256 → b₃ ≡ w / 16777216 % 256
     → s₁ ≡ storeByte s p d i b₀ → s₂ ≡ storeByte s₁ p d (i + 1) b₁ → s₃ ≡ storeByte s₂ p d (i + 2) b₂ → s₄ ≡ storeByte s₃ p d (i + 3) b₃ → s₄ ≡ storeReply s p d i w

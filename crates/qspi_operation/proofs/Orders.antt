@@ -24,7 +24,6 @@ use Rattle.qspi_operation.specs.Points.{Lending, sameAs, Point, reached,
 use Rattle.qspi_operation.specs.Follows.{Follows, Begun, Leaves, StepFollows, RunFollows}
 use Rattle.qspi_operation.specs.Orders.{History, begun, stepped, ran, beside, ran-beside, queried, before, Stands, InOrder}
 use Rattle.qspi_operation.specs.Step.{isGoing}
-use Rattle.qspi_operation.proofs.Verdicts.{no}
 use Rattle.qspi_operation.proofs.PointLaws.{encode-append, sets-more, made-more, stays, over-runs}
 use Rattle.qspi_operation.proofs.Passes.{going-is}
 use Rattle.qspi_operation.proofs.Following.{shows, some}

@@ -22,7 +22,7 @@ use Rattle.qspi_operation.specs.declared.Verdict.{Verdict}
 use Rattle.qspi_operation.specs.declared.Verdict.the-variants.{Ended, Changed, Full, Dry, Made}
 use Rattle.qspi_operation.specs.Store.{when, storeByte, storeReply, stored, isTaking, isReading, skipped}
 use Rattle.qspi_operation.specs.Step.{isGoing, verdictOf, act, moved, movedBy, counted, noted, taken, replyOf, stepOf, logOf, bufferOf}
-use Rattle.qspi_operation.specs.Run.{Run, here, runAt, runOf, fuel}
+use Rattle.qspi_operation.specs.Run.{here, runAt, runOf, fuel}
 use Rattle.qspi_operation.specs.Pass.{left}
 use Rattle.qspi_operation.proofs.Verdicts.{no, makes, room, ends}
 

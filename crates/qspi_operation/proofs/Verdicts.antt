@@ -16,7 +16,7 @@ use Rattle.qspi_operation.specs.declared.Stepped.{Stepped}
 use Rattle.qspi_operation.specs.declared.Verdict.{Verdict}
 use Rattle.qspi_operation.specs.Store.{stored}
 use Rattle.qspi_operation.specs.declared.Verdict.the-variants.{Ended, Changed, Full, Dry, Made}
-use Rattle.qspi_operation.specs.Step.{isGoing, accessOf, answered, choose, sameLengths, going, verdictOf, act, stepOf, logOf, bufferOf, noted, taken, counted, moved, written}
+use Rattle.qspi_operation.specs.Step.{isGoing, accessOf, answered, choose, sameLengths, verdictOf, act, stepOf, logOf, bufferOf, noted, taken, counted, moved, written}
 
 pub no : {A : Type 0} → false ≡ true → A
 no h = absurd (let z : _≡_ {A = ℕ} 0 1 = cc in omega arith)

@@ -1,7 +1,7 @@
 -- An access and its two log words, both ways, and when two words are no access. Assumes nothing.
 use Prim.Native.Nat.{ℕ, _+_, _-_, _*_, _%_, _<_, _≤_}
-use mathlib.Core.Path.{_≡_, refl, sym, ap, _∙_}
-use mathlib.Core.Bool.{Bool, true, false, cond}
+use mathlib.Core.Path.{_≡_, refl}
+use mathlib.Core.Bool.{Bool, true, false}
 use mathlib.Core.List.{List, [], _∷_}
 use mathlib.Core.Logic.{_↔_, _⊎_, inl, inr}
 use native.Mathlib.Omega.{arith}
@@ -12,7 +12,6 @@ use Rattle.zynq7000.specs.Qspi.{offsetOf}
 use Rattle.zynq7000.specs.Access.{offsetIn, firstWord, valueWord, encode, recordOf, Aligned}
 use Rattle.zynq7000.specs.declared.qspi.Access.{Access}
 use Rattle.zynq7000.specs.declared.qspi.Access.the-variants.{Read, Write}
-use Rattle.zynq7000.specs.declared.qspi.Record.{Record}
 use Rattle.zynq7000.specs.declared.qspi.Record.the-variants as record-of
 use Rattle.zynq7000.specs.declared.qspi.Register.{Register}
 use Rattle.zynq7000.specs.declared.qspi.Register.the-variants as register

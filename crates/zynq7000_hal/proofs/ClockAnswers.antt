@@ -20,7 +20,6 @@ use Rattle.zynq7000_hal.specs.Clocks.{answerOf, roundedUp, sourceClock, 
 use Rattle.zynq7000_hal.specs.declared.clocks.Clocks.{Clocks}
 use Rattle.zynq7000_hal.specs.declared.qspi.BaudRateConfig.{BaudRateConfig}
 use Rattle.zynq7000_hal.specs.declared.qspi.BaudRateConfig.the-variants.{WithLoopback, WithoutLoopback}
-use Rattle.zynq7000_hal.specs.declared.qspi.ClockConfig.{ClockConfig}
 use Rattle.zynq7000_hal.specs.declared.qspi.ClockCalculationError.{ClockCalculationError}
 use Rattle.zynq7000_hal.specs.declared.qspi.ClockCalculationError.the-variants as error
 use Rattle.zynq7000_hal.specs.declared.qspi.ClockCalculation.{ClockCalculation}

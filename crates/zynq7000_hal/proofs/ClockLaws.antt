@@ -1,6 +1,6 @@
 -- Rounding up, the rungs of the ladder, and what the calculations answer test by test. Assumes nothing.
 use Prim.Native.Nat.{ℕ, _+_, _-_, _*_, _/_, _%_, _<_, _≤_}
-use mathlib.Core.Path.{_≡_, refl, sym, ap, _∙_}
+use mathlib.Core.Path.{_≡_, ap, _∙_}
 use native.Mathlib.Omega.{arith}
 use native.Mathlib.Nat.{add-mul, one-mul, div-add-mod', mod-lt, div-mul-le-self, lt-div-mul-add, le-div-iff-mul-le, le-mul-of-pos-right}
 use lib.Arith.{digits-div}
