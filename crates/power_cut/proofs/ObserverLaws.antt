@@ -15,6 +15,10 @@ use Rattle.power_cut.specs.Flash.{Command, writeEnable, writeDisable, st
 use Rattle.power_cut.specs.Controller.{registerAt, bytesOut, isStatusRead}
 use Rattle.power_cut.specs.Observer.{Transfer, closed, opened, unread, Observed, named, raised, configWritten, isClean, closing, enableWritten, seenWrite, seenRead, see, sees, observed}
 
+and-false : (x : Bool) → (x && false) ≡ false
+and-false true = refl
+and-false false = refl
+
 -- ---- "error bit and bit 0 clear"
 
 module _ (b : ℕ) (bs : List ℕ) (v : ℕ) where
@@ -31,10 +35,6 @@ module _ (b : ℕ) (bs : List ℕ) (v : ℕ) where
   busy-status z =
       let e : isSet 0 (topByte v) ≡ true = eq-eqb (v / 2 ^ 24 % 256 / 2 ^ 0 % 2) 1 (omega (arith, z)) in
       rw e (and-false (not (isSet 6 (topByte v))))
-    where
-      and-false : (x : Bool) → (x && false) ≡ false
-      and-false true = refl
-      and-false false = refl
 
   pub error-status : v / 2 ^ 30 % 2 ≡ 1 → isClean (opened (0x05 ∷ b ∷ bs) v) ≡ false
   unfolding isClean isStatusRead
@@ -49,11 +49,7 @@ pub unread-unclean : (sent : List ℕ) → isClean (opened sent unread) ≡ fals
 unfolding isClean isStatusRead
 unread-unclean [] = refl
 unread-unclean (b ∷ []) = refl
-unread-unclean (b ∷ c ∷ bs) = go (isStatusRead (b ∷ c ∷ bs))
-  where
-    go : (x : Bool) → (x && false) ≡ false
-    go true = refl
-    go false = refl
+unread-unclean (b ∷ c ∷ bs) = and-false (isStatusRead (b ∷ c ∷ bs))
 
 -- a status transfer without a reply leaves the chunks in doubt and the finished ones as they were
 pub nobody-read : (o : Observed) (v : ℕ) → see (see (see o (Write 0x14 1)) (Write 0x84 v)) (Write 0x14 0) ≡ record { transfer = closed; up = o .up; doubt = o .doubt; finished = o .finished }

@@ -10,12 +10,13 @@ use lib.ListN.{length, length-append}
 use borrow.Author.Tests.{ltb-true, ltb-false, lt-ltb, le-ltb, eq-eqb, ne-eqb, eqb-true, eqb-false}
 use Rattle.zynq7000.specs.Bits.{isSet}
 use Rattle.zynq7000.specs.declared.qspi.Access.{Access}
+use Rattle.qspi_script.specs.Answer.{numberOf}
 use Rattle.qspi_script.specs.declared.Status.{Status}
 use Rattle.qspi_script.specs.declared.Status.the-variants.{Done, OutOfRange, Alignment, DataTooLarge, NotAligned, CrossesPageBoundary, EraseErrorBitSet, ProgrammingErrorBitSet}
 use Rattle.qspi_operation.specs.Machine.{Transfer, Script, ends, counts, exchange, onward, State, ended, begin, want, nothing, statusIn, Result, called, after}
 use Rattle.qspi_operation.specs.Whole.{Whole}
 use Rattle.qspi_operation.proofs.Verdicts.{no}
-use Rattle.qspi_operation.proofs.Stops.{numberOf, EndsWith, with-end, with-perform, with-either, answers, some-read, Stop, at-end, no-room, no-reply, stands, stopped, ownAnswer}
+use Rattle.qspi_operation.proofs.Stops.{EndsWith, with-end, with-perform, with-either, answers, some-read, Stop, at-end, no-room, no-reply, stands, stopped, ownAnswer}
 use Rattle.qspi_operation.proofs.Wholes.{Plays, First, plays-end, plays-first, after-first, whole-some}
 use Rattle.qspi_calls.specs.Chunks.{Chunk, chunks, Among, here, there}
 use Rattle.qspi_calls.specs.Calls.{refused, enabling, disabling, clearing, statusReading, erasing, programming, top}

@@ -12,11 +12,12 @@ use borrow.Author.Tests.{ltb-true, ltb-false, lt-ltb, le-ltb, eq-eqb, ne-eqb, eq
 use Rattle.zynq7000.specs.Bits.{isSet}
 use Rattle.zynq7000_hal.specs.declared.qspi.ClockConfig.{ClockConfig}
 use Rattle.zedboard_bsp.specs.Registers.{protected, updateNeeded}
+use Rattle.qspi_script.specs.Answer.{numberOf}
 use Rattle.qspi_script.specs.declared.Status.{Status}
 use Rattle.qspi_script.specs.declared.Status.the-variants.{Done, OutOfRange, Alignment, DataTooLarge, NotAligned, CrossesPageBoundary, AddressSpan, FieldTooWide, ProgrammingErrorBitSet, RepliesEnded, LogFull}
 use Rattle.qspi_operation.specs.Machine.{Transfer, Script, ends, exchange, onward, ended, want, reads, nothing, Result, halt, runs, called}
 use Rattle.qspi_operation.proofs.Verdicts.{no}
-use Rattle.qspi_operation.proofs.Stops.{numberOf, EndsWith, with-end, with-perform, with-repeat, with-count, with-either, answers, ownAnswer, full-when, dry-when}
+use Rattle.qspi_operation.proofs.Stops.{EndsWith, with-end, with-perform, with-repeat, with-count, with-either, answers, ownAnswer, full-when, dry-when}
 use Rattle.qspi_calls.specs.Chunks.{Chunk, chunksIn, chunks, Among, here, there}
 use Rattle.qspi_calls.specs.declared.start.Config.{Config}
 use Rattle.qspi_calls.specs.declared.start.Latency.{Latency}

@@ -8,13 +8,13 @@ use lib.Dec.{ltb, eqb}
 use lib.ListN.{length}
 use borrow.Author.Tests.{lt-ltb, le-ltb}
 use Rattle.zynq7000.specs.Access.{encode}
-use Rattle.qspi_script.specs.Answer.{saidBy}
+use Rattle.qspi_script.specs.Answer.{saidBy, numberOf}
 use Rattle.qspi_script.specs.declared.Status.{Status}
 use Rattle.qspi_script.specs.declared.Status.the-variants.{OutOfRange, FieldTooWide}
 use Rattle.qspi_operation.specs.Machine.{Script, onward, Result, called, readsOf}
 use Rattle.qspi_operation.specs.Points.{answeredOf}
 use Rattle.qspi_operation.proofs.Verdicts.{no}
-use Rattle.qspi_operation.proofs.Stops.{numberOf, EndsWith, with-end, with-perform, answers}
+use Rattle.qspi_operation.proofs.Stops.{EndsWith, with-end, with-perform, answers}
 use Rattle.qspi_calls.specs.Chunks.{Chunk, chunks}
 use Rattle.qspi_calls.specs.Promise.{loggedOf, bufferedOf}
 use Rattle.qspi_calls.specs.declared.start.Latency.{Latency}

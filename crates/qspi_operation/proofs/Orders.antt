@@ -30,7 +30,7 @@ use Rattle.qspi_operation.proofs.Following.{shows, some}
 
 -- ---- the accesses that a script makes
 
-after-append : (s : State) (l m : List Access) → after s (l ++ m) ≡ after (after s l) m
+pub after-append : (s : State) (l m : List Access) → after s (l ++ m) ≡ after (after s l) m
 after-append s [] m = refl
 after-append s (a ∷ l) m = after-append (next s (valueWord a)) l m
 

@@ -10,7 +10,7 @@ use lib.ListN.{length}
 use Rattle.zynq7000.specs.Access.{valueWord}
 use Rattle.zynq7000.specs.declared.qspi.Access.{Access}
 use Rattle.zynq7000.specs.declared.qspi.Access.the-variants as access
-use Rattle.qspi_script.specs.Answer.{saidBy, numberIn, orElse}
+use Rattle.qspi_script.specs.Answer.{numberOf}
 use Rattle.qspi_script.specs.declared.Status.{Status}
 use Rattle.qspi_script.specs.declared.Status.the-variants.{RepliesEnded, LogFull}
 use Rattle.qspi_operation.specs.Machine.{Action, Midway, first, full, changed, again, ready, write, modify, drain, reply, Want, reads, writes, nothing, wantAt, Progress, stays, over, takes, progress, Script, ends, perform, repeats, counts, onward, State, going, ended, begin, proceed, moves, want, next, statusIn, Result, logging, noRoom, made, runs, called, repliesOf, Makes, after}
@@ -99,10 +99,6 @@ pub stopped : (c : Script) (room : ℕ) (replies : List ℕ) → Stop (called c 
 stopped c room replies = stop-runs room (begin c [] 0) replies
 
 -- ---- the numbers that a script ends with
-
--- 01's number of a status; one that goes on has none, and is given the next after 01's last
-abbrev pub numberOf : Status → ℕ
-numberOf a = orElse (numberIn (saidBy a [])) 26
 
 -- whatever the replies decide, the script ends by itself with a status of this kind
 pub data EndsWith (p : Status → Bool) : Script → Type 0 where

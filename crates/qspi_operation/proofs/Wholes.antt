@@ -13,6 +13,7 @@ use Rattle.qspi_script.specs.declared.Status.the-variants.{Done}
 use Rattle.qspi_transfer.specs.Wire.{waits}
 use Rattle.qspi_operation.specs.Machine.{Action, Midway, first, full, write, drain, reply, Want, reads, writes, nothing, wantAt, Progress, stays, over, takes, progress, Transfer, replicate, replying, opening, Script, ends, none, exchange, State, going, ended, begin, proceed, moves, want, next, valuesIn, Matches, m-read, m-write, Makes, after}
 use Rattle.qspi_operation.specs.Whole.{Whole}
+use Rattle.qspi_operation.proofs.Orders.{after-append}
 use Rattle.qspi_operation.proofs.Stops.{some-due}
 
 -- the accesses of a script from its beginning on, and where they lead
@@ -34,10 +35,6 @@ pub plays-end : (a : Status) (vs bs : List ℕ) (n : ℕ) (log : List Access) (e
 plays-end a vs bs n log e p =
     let z : log ≡ [] = over-makes log (ended a vs bs n) refl (p .makes) in
     (z, sym (ap (after (ended a vs bs n)) z) ∙ p .there)
-
-pub after-append : (s : State) (l m : List Access) → after s (l ++ m) ≡ after (after s l) m
-after-append s [] m = refl
-after-append s (a ∷ l) m = after-append (next s (valueWord a)) l m
 
 -- ---- one transfer first
 

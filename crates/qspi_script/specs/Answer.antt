@@ -63,6 +63,10 @@ abbrev pub orElse : Number → ℕ → ℕ
 orElse (Of n) without = n
 orElse Without without = without
 
+-- that of a status; one that goes on has none, and is given the next after 01's last
+abbrev pub numberOf : Status → ℕ
+numberOf a = orElse (numberIn (saidBy a [])) 26
+
 -- the values; none while it goes on
 abbrev pub valuesIn : Said → List ℕ
 valuesIn goesOn = []

@@ -19,7 +19,8 @@ use Rattle.qspi_calls.proofs.PromptLogs.{Logs, counting-logs, works, read-logs,
 use Rattle.qspi_calls.proofs.PageExamples.{prompt}
 use Rattle.qspi_calls.proofs.Pages.{chunks-cons}
 use Rattle.qspi_calls.proofs.ProgramWords.{length-words}
-use Rattle.starred_cases.specs.Cases.{any, write-pages, accepted, gives, sends, gives-with, Case, case, starred, wordsTo, Ends, Meets, Holds, AllHold, numberOf}
+use Rattle.qspi_script.specs.Answer.{numberOf}
+use Rattle.starred_cases.specs.Cases.{any, write-pages, accepted, gives, sends, gives-with, Case, case, starred, wordsTo, Ends, Meets, Holds, AllHold}
 use Rattle.starred_cases.proofs.Through.{sending, Through, stops, arrives, performs, repeating, counting, arrives-always}
 
 -- ---- runs

@@ -9,7 +9,8 @@ use lib.Dec.{eqb}
 use Rattle.qspi_transfer.specs.Wire.{waits}
 use Rattle.qspi_script.specs.declared.Status.{Status}
 use Rattle.qspi_operation.specs.Machine.{Action, write, modify, drain, reply, first, full, changed, again, ready, Want, reads, writes, nothing, wantAt, stays, over, Script, ends, perform, repeats, counts, onward, State, going, ended, begin, proceed, moves, want, next, statusIn, countIn, Result, noRoom, made, runs, called}
-use Rattle.starred_cases.specs.Cases.{wordsTo, numberOf}
+use Rattle.qspi_script.specs.Answer.{numberOf}
+use Rattle.starred_cases.specs.Cases.{wordsTo}
 
 -- the words that actions write to an offset, and then these
 abbrev pub sending : ℕ → List Action → List ℕ → List ℕ

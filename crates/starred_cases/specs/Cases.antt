@@ -13,8 +13,7 @@ use Rattle.zynq7000.specs.declared.qspi.Access.the-variants.{Read, Write}
 use Rattle.zynq7000.specs.declared.slcr.clocks.SrcSelIo.the-variants.{IoPll}
 use Rattle.zynq7000_hal.specs.Clocks.{roundedUp, quotient, calculateAnswer, loopbackAnswer}
 use Rattle.zynq7000_hal.specs.declared.clocks.Clocks.{Clocks}
-use Rattle.qspi_script.specs.Answer.{saidBy, numberIn, orElse}
-use Rattle.qspi_script.specs.declared.Status.{Status}
+use Rattle.qspi_script.specs.Answer.{numberOf}
 use Rattle.qspi_script.specs.declared.Status.the-variants.{Done}
 use Rattle.qspi_operation.specs.Machine.{Script, Result, countIn, called}
 use Rattle.qspi_calls.specs.Calls as script
@@ -76,10 +75,6 @@ abbrev pub wordsTo : ℕ → List Access → List ℕ
 wordsTo at [] = []
 wordsTo at (Read o v ∷ l) = wordsTo at l
 wordsTo at (Write o v ∷ l) = cond (eqb o at) (v ∷ wordsTo at l) (wordsTo at l)
-
--- 01's number of an answer; one that goes on has none, and is given the next after 01's last
-abbrev pub numberOf : Status → ℕ
-numberOf a = orElse (numberIn (saidBy a [])) 26
 
 -- so ends every run, whatever its room and replies, that "What the state can bring on" (21 and above) does not end; and there is such a run
 pub record Ends (c : Script) (P : Result → Type 0) : Type 0 where
