@@ -8,7 +8,6 @@ use qspi_script::Place;
 use qspi_script::Stage;
 use qspi_transfer::Phase;
 use qspi_transfer::Wire;
-use zedboard_bsp::qspi_spansion::words;
 
 // One byte, by its place among the bytes after the first reply; the dummy byte and bytes past the
 // chunk are dropped.
