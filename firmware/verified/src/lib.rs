@@ -14,3 +14,7 @@ pub mod qspi_transfer;
 pub mod zedboard_bsp;
 pub mod zynq7000;
 pub mod zynq7000_hal;
+
+#[cfg(doctest)]
+#[doc = include_str!("../README.md")]
+struct Readme;

@@ -1,0 +1,139 @@
+//! The flash chip: the calls of the driver as ordinary methods, under the Rust's names.
+
+use crate::{Bus, Error, QspiLowLevel, WritePagesError};
+use verified::qspi_calls::start::{self, Config};
+use verified::zedboard_bsp::qspi_spansion::device_id::{BaseDeviceId, ExtendedDeviceId};
+use verified::zedboard_bsp::qspi_spansion::{ConfigRegister1, StatusRegister1};
+
+/// The S25FL256S behind a controller in I/O mode. A method makes its call on the bus, access by access, to its end.
+pub struct Flash<'l, B> {
+    low_level: QspiLowLevel<'l, B>,
+}
+
+impl<'l, B: Bus> Flash<'l, B> {
+    /// Clears the status register, and brings status and configuration register to what is asked for. Where it fails the
+    /// controller comes back with the error.
+    ///
+    /// Where it had to write the registers the flash may be at work afterwards: read the status until bit 0 is clear.
+    #[allow(clippy::result_large_err)]
+    pub fn new(low_level: QspiLowLevel<'l, B>, config: Config) -> Result<Self, (Error, QspiLowLevel<'l, B>)> {
+        let mut flash = Flash::over(low_level);
+        let op = start::new(config, flash.low_level.room());
+        match flash.low_level.command(op) {
+            Ok(()) => Ok(flash),
+            Err(error) => Err((error, flash.low_level)),
+        }
+    }
+
+    /// Over a controller and a flash that have been through [new](Self::new). Makes no access.
+    pub fn over(low_level: QspiLowLevel<'l, B>) -> Self {
+        Flash { low_level }
+    }
+
+    /// Bits 2 to 4 of the status register, and bit 7 clear. It does not wait for the flash.
+    pub fn set_write_protection(&mut self, write_protection: u8) -> Result<(), Error> {
+        let op = start::set_write_protection(write_protection, self.low_level.room());
+        self.low_level.command(op)
+    }
+
+    pub fn write_enable(&mut self) -> Result<(), Error> {
+        let op = start::write_enable(self.low_level.room());
+        self.low_level.command(op)
+    }
+
+    pub fn write_disable(&mut self) -> Result<(), Error> {
+        let op = start::write_disable(self.low_level.room());
+        self.low_level.command(op)
+    }
+
+    pub fn clear_status(&mut self) -> Result<(), Error> {
+        let op = start::clear_status(self.low_level.room());
+        self.low_level.command(op)
+    }
+
+    /// It does not wait for the flash.
+    pub fn write_status(&mut self, sr: StatusRegister1) -> Result<(), Error> {
+        let op = start::write_status(sr.0, self.low_level.room());
+        self.low_level.command(op)
+    }
+
+    /// It does not wait for the flash.
+    pub fn write_status_and_config_register(&mut self, sr: StatusRegister1, cr: ConfigRegister1) -> Result<(), Error> {
+        let op = start::write_status_and_config_register(sr.0, cr.0, self.low_level.room());
+        self.low_level.command(op)
+    }
+
+    pub fn read_status_register_1(&mut self) -> Result<StatusRegister1, Error> {
+        let op = start::read_status_register_1(self.low_level.room());
+        self.low_level.command(op)?;
+        Ok(StatusRegister1(self.low_level.answer().register()))
+    }
+
+    pub fn read_configuration_register(&mut self) -> Result<ConfigRegister1, Error> {
+        let op = start::read_configuration_register(self.low_level.room());
+        self.low_level.command(op)?;
+        Ok(ConfigRegister1(self.low_level.answer().register()))
+    }
+
+    pub fn read_rdid_base(&mut self) -> Result<BaseDeviceId, Error> {
+        let op = start::read_rdid_base(self.low_level.room());
+        self.low_level.command(op)?;
+        Ok(self.low_level.answer().base_device_id())
+    }
+
+    pub fn read_rdid_extended(&mut self) -> Result<ExtendedDeviceId, Error> {
+        let op = start::read_rdid_extended(self.low_level.room());
+        self.low_level.command(op)?;
+        Ok(self.low_level.answer().extended_device_id())
+    }
+
+    /// Erases the sector of 65,536 bytes that starts at `addr`, and waits until that is done.
+    pub fn erase_sector(&mut self, addr: u32) -> Result<(), Error> {
+        let op = start::erase_sector(addr, self.low_level.room());
+        self.low_level.command(op)
+    }
+
+    /// Programs up to 240 bytes of one page, and waits until that is done.
+    pub fn program(&mut self, addr: u32, data: &[u8]) -> Result<(), Error> {
+        let op = start::program(addr, data.len(), self.low_level.room());
+        self.low_level.call(op, data, &mut [])
+    }
+
+    /// Programs data in chunks of 128 bytes, each of which must lie in one page, and waits for each. Gives the bytes of the
+    /// finished chunks: all of them, or those before the error.
+    pub fn write_pages(&mut self, addr: u32, data: &[u8]) -> Result<usize, WritePagesError> {
+        if self.low_level.needs_reset() {
+            return Err(WritePagesError { error: Error::ResetNeeded, programmed: 0 });
+        }
+        let op = start::write_pages(addr, data.len(), self.low_level.room());
+        let ended = self.low_level.call(op, data, &mut []);
+        let programmed = self.low_level.answer().programmed;
+        match ended {
+            Ok(()) => Ok(programmed),
+            Err(error) => Err(WritePagesError { error, programmed }),
+        }
+    }
+
+    /// Fills the buffer with the bytes from `addr` on. Where it fails, chunks that were read stand in it.
+    pub fn read_page_read(&mut self, addr: u32, buf: &mut [u8]) -> Result<(), Error> {
+        let op = start::read_page_read(addr, buf.len(), self.low_level.room());
+        self.low_level.call(op, &[], buf)
+    }
+
+    /// As [read_page_read](Self::read_page_read), by the fast command; with a dummy byte between address and data where the
+    /// latency code asks for one.
+    pub fn read_fast_read(&mut self, addr: u32, buf: &mut [u8], dummy_byte: bool) -> Result<(), Error> {
+        let op = start::read_fast_read(addr, dummy_byte, buf.len(), self.low_level.room());
+        self.low_level.call(op, &[], buf)
+    }
+
+    /// The controller, for its log, its budget and its bus.
+    pub fn low_level(&mut self) -> &mut QspiLowLevel<'l, B> {
+        &mut self.low_level
+    }
+
+    /// Gives the controller back.
+    pub fn release(self) -> QspiLowLevel<'l, B> {
+        self.low_level
+    }
+}

@@ -1,0 +1,178 @@
+//! The controller: how a call is made on the bus, and the calls that set the controller up.
+
+use crate::patience::Patience;
+use crate::{Budget, Bus, Error};
+use core::ops::ControlFlow;
+use verified::qspi_calls::start;
+use verified::qspi_driver::QspiSpansionS25Fl256SIoMode;
+use verified::qspi_driver::state::{self, Answer, Progress};
+use verified::qspi_operation::{Asked, Op, Reply};
+use verified::qspi_script::{Stage, Status};
+use verified::qspi_transfer::Phase;
+use verified::zynq7000_hal::qspi::ClockConfig;
+
+/// The QSPI controller behind a bus. It holds the proved driver, and lends it a log: two words for each access of the call at
+/// hand, the offset (plus 100 hex for a read) and the value.
+pub struct QspiLowLevel<'l, B> {
+    bus: B,
+    log: &'l mut [u32],
+    budget: Budget,
+    driver: QspiSpansionS25Fl256SIoMode,
+    reset_needed: bool,
+}
+
+impl<'l, B: Bus> QspiLowLevel<'l, B> {
+    /// Makes no access. [log_words](crate::log_words) says how long a log has to be.
+    pub fn new(bus: B, log: &'l mut [u32], budget: Budget) -> Self {
+        QspiLowLevel { bus, log, budget, driver: QspiSpansionS25Fl256SIoMode::idle(), reset_needed: false }
+    }
+
+    /// Writes the config word and, with loopback, the loopback delay; gives the word for the SLCR's LQSPI_CLK_CTRL, which is
+    /// the caller's to write. Unlike the Rust's it resets nothing: where [needs_reset](Self::needs_reset) says so, reset the
+    /// controller by the SLCR first.
+    pub fn initialize(&mut self, clock_config: ClockConfig, phase: bool, polarity: bool) -> Result<u32, Error> {
+        self.driver = QspiSpansionS25Fl256SIoMode::idle();
+        self.reset_needed = false;
+        self.command(start::initialize(clock_config, phase, polarity, self.log.len()))?;
+        Ok(self.answer().lqspi_clk_ctrl())
+    }
+
+    /// Start and chip select become the program's. The calls of [Flash](crate::Flash) need it.
+    pub fn enable_io_mode(&mut self, dual_flash: bool) -> Result<(), Error> {
+        self.command(start::enable_io_mode(dual_flash, self.log.len()))
+    }
+
+    /// The flash as memory: `config` is a word as `linear_mode_config_for_common_devices` gives it.
+    pub fn enable_linear_addressing(&mut self, config: u32) -> Result<(), Error> {
+        self.command(start::enable_linear_addressing(config, self.log.len()))
+    }
+
+    pub fn disable(&mut self) -> Result<(), Error> {
+        self.command(start::disable(self.log.len()))
+    }
+
+    /// Whether a call was stopped inside a transfer. Each further one but [initialize](Self::initialize) is then refused.
+    pub fn needs_reset(&self) -> bool {
+        self.reset_needed
+    }
+
+    /// The log of the last call that was begun.
+    pub fn log(&self) -> &[u32] {
+        &self.log[..self.answer().used]
+    }
+
+    /// For the calls to come.
+    pub fn set_budget(&mut self, budget: Budget) {
+        self.budget = budget;
+    }
+
+    pub fn bus(&mut self) -> &mut B {
+        &mut self.bus
+    }
+
+    /// Gives back what was lent.
+    pub fn release(self) -> (B, &'l mut [u32]) {
+        (self.bus, self.log)
+    }
+
+    /// The answer of the last call that was begun.
+    pub(crate) fn answer(&self) -> Progress {
+        self.driver.answer()
+    }
+
+    /// The words of log that a call is lent.
+    pub(crate) fn room(&self) -> usize {
+        self.log.len()
+    }
+
+    /// A call without data and without a read buffer.
+    pub(crate) fn command(&mut self, op: Op) -> Result<(), Error> {
+        self.call(op, &[], &mut [])
+    }
+
+    /// A call from its start to its end. Each turn makes one access or ends the call, and the log has an end: so has this.
+    pub(crate) fn call(&mut self, op: Op, data: &[u8], buffer: &mut [u8]) -> Result<(), Error> {
+        if self.reset_needed {
+            return Err(Error::ResetNeeded);
+        }
+        let mut patience = Patience::new(self.budget);
+        let mut answer = self.driver.start(op);
+        while state::is_under_way(answer) {
+            let (stage, phase) = (self.stage(), self.phase());
+            let reply = self.access(data, &mut patience);
+            answer = self.driver.step(data, buffer, self.log, reply);
+            if phase == Phase::Disable && state::is_under_way(answer) {
+                self.between(stage, &mut patience);
+            }
+        }
+        self.end(answer)
+    }
+
+    /// Makes the access that is due, and gives the reply of a read. It makes none where the log has no room for it, so that the
+    /// step answers 24, nor where patience has ended and a read is due, so that the step answers 23.
+    fn access(&mut self, data: &[u8], patience: &mut Patience) -> Reply {
+        if self.log.len() - self.driver.state.op.used < 2 {
+            return Reply::Nothing;
+        }
+        match self.driver.due(data) {
+            Asked::Read(_) if patience.has_ended() => Reply::Nothing,
+            Asked::Read(offset) => {
+                let word = self.bus.read(offset);
+                patience.look(self.phase(), word);
+                Reply::Word(word)
+            }
+            Asked::Write(offset, value) => {
+                self.bus.write(offset, value);
+                Reply::Nothing
+            }
+            Asked::Nothing | Asked::LentLengthChanged => Reply::Nothing,
+        }
+    }
+
+    /// A transfer is over and another one comes.
+    fn between(&mut self, over: Stage, patience: &mut Patience) {
+        match (over, self.stage()) {
+            (Stage::Program, Stage::Poll) => patience.leave_reply(),
+            (Stage::Poll, Stage::Poll) => self.wait(patience),
+            _ => {}
+        }
+    }
+
+    /// Between two status transfers: the firmware waits.
+    fn wait(&mut self, patience: &mut Patience) {
+        let busy = patience.busy();
+        if !patience.has_ended() && self.bus.wait(busy) == ControlFlow::Break(()) {
+            patience.end();
+        }
+    }
+
+    fn end(&mut self, answer: Answer) -> Result<(), Error> {
+        match answer {
+            Answer::Given(status) => {
+                if matches!(status, Status::RepliesEnded | Status::LogFull) {
+                    self.reset_needed = self.is_open();
+                }
+                Error::of(status).map_or(Ok(()), Err)
+            }
+            // A bus that panicked has left the operation at hand under way.
+            Answer::Busy => {
+                self.reset_needed = true;
+                Err(Error::ResetNeeded)
+            }
+        }
+    }
+
+    /// Whether the access that is due stands inside a transfer, or inside a row of register writes. Up to the write that lowers
+    /// chip select the controller rests.
+    fn is_open(&self) -> bool {
+        !matches!(self.phase(), Phase::DrainStatus | Phase::DrainData | Phase::OpenRead | Phase::OpenWrite)
+    }
+
+    fn stage(&self) -> Stage {
+        self.driver.state.op.place.stage
+    }
+
+    fn phase(&self) -> Phase {
+        self.driver.state.op.wire.phase
+    }
+}

@@ -1,0 +1,56 @@
+//! What is left of a call's budget.
+
+use crate::Budget;
+use verified::qspi_transfer::Phase;
+use verified::zynq7000::qspi::InterruptStatus;
+
+pub(crate) struct Patience {
+    budget: Budget,
+    looks: u32,
+    busy: u32,
+    left_reply: bool,
+    ended: bool,
+}
+
+impl Patience {
+    pub fn new(budget: Budget) -> Self {
+        Patience { budget, looks: 0, busy: 0, left_reply: false, ended: false }
+    }
+
+    /// Whether no further reply is waited for.
+    pub fn has_ended(&self) -> bool {
+        self.ended
+    }
+
+    pub fn end(&mut self) {
+        self.ended = true;
+    }
+
+    /// A word was read: in vain, where it is a status that shows no reply though one is due, or an old one though none is.
+    pub fn look(&mut self, phase: Phase, word: u32) {
+        let waits = InterruptStatus(word).rx_above_threshold();
+        let in_vain = match phase {
+            Phase::Wait | Phase::WaitAgain => !waits,
+            Phase::DrainStatus => waits,
+            _ => false,
+        };
+        if in_vain && self.left_reply && phase == Phase::DrainStatus {
+            self.left_reply = false;
+        } else if in_vain {
+            self.ended |= self.looks == self.budget.looks;
+            self.looks = self.looks.saturating_add(1);
+        }
+    }
+
+    /// A program command takes one reply less than it sends words, so that the next transfer finds one: it costs nothing.
+    pub fn leave_reply(&mut self) {
+        self.left_reply = true;
+    }
+
+    /// A status transfer showed the flash at work; how many have.
+    pub fn busy(&mut self) -> u32 {
+        self.ended |= self.busy == self.budget.busy;
+        self.busy = self.busy.saturating_add(1);
+        self.busy
+    }
+}

@@ -1,0 +1,273 @@
+//! The calls on a simulated device, sound, slow, failing or cut off.
+
+mod common;
+
+use common::{Board, data, flash, rows};
+use core::ops::ControlFlow;
+use model::{Failure, Mode, Model, Settings};
+use qspi_flash::{AS_IT_IS, Budget, Bus, Call, Error, Flash, QspiLowLevel, Waiting, WritePagesError, log_words};
+use verified::zedboard_bsp::qspi_spansion::device_id::{Density, DensityCode};
+
+const AMPLE: Budget = Budget { looks: 1000, busy: 1000 };
+const NOTHING_TO_SPARE: Budget = Budget { looks: 0, busy: 0 };
+const SECTOR: u32 = 0x03_0000;
+
+fn slow() -> Settings {
+    Settings { looks: 2, busy: 3, ..Settings::default() }
+}
+
+#[test]
+fn every_call_is_done_on_a_prompt_device_with_nothing_to_spare() {
+    for row in rows() {
+        let mut log = vec![0; 4000];
+        let mut board = flash(Model::default(), &mut log, NOTHING_TO_SPARE);
+        board.low_level().bus().clear();
+        let (mut controller, ended) = (row.make)(board);
+        assert_eq!((ended, controller.needs_reset()), (Ok(()), false), "{:?}", row.call);
+        assert_eq!(controller.log().to_vec(), controller.bus().seen, "{:?}", row.call);
+        assert!(controller.log().len() <= log_words(row.call, NOTHING_TO_SPARE), "{:?}", row.call);
+    }
+}
+
+/// Accesses of a call that the flash reports no error of: the function's but for those of the error's end.
+#[test]
+fn the_length_of_a_log_is_what_a_prompt_device_takes() {
+    for row in rows() {
+        let mut log = vec![0; 4000];
+        let (controller, _) =
+            (row.make)(flash(Model::new(Settings { status: 0x1C, ..Settings::default() }), &mut log, AMPLE));
+        let error = match row.call {
+            Call::EraseSector | Call::Program(_) | Call::WritePages(_) => 48,
+            _ => 0,
+        };
+        assert_eq!(controller.log().len() + error, log_words(row.call, NOTHING_TO_SPARE), "{:?}", row.call);
+    }
+}
+
+#[test]
+fn ids_and_registers() {
+    let mut log = vec![0; 400];
+    let settings = Settings { status: 0x1C, config_register: 0xC2, ..Settings::default() };
+    let mut board = flash(Model::new(settings), &mut log, AMPLE);
+    let base = board.read_rdid_base().unwrap();
+    assert_eq!((base.manufacturer_id(), base.device_id_raw()), (0x01, 0x0219));
+    assert_eq!(base.density(), DensityCode::Known(Density::_256Mb));
+    let extended = board.read_rdid_extended().unwrap();
+    assert_eq!((extended.base_id(), extended.family_id(), extended.model_number()), (base, 0x80, *b"R0"));
+    assert_eq!(board.read_status_register_1().unwrap().block_protection(), 7);
+    assert_eq!(board.read_configuration_register().unwrap().0, 0xC2);
+    board.set_write_protection(2).unwrap();
+    assert_eq!(board.read_status_register_1().unwrap().block_protection(), 2);
+    assert_eq!(board.set_write_protection(8), Err(Error::FieldTooWide));
+}
+
+fn read_back(board: &mut Board<'_>, addr: u32, length: usize) -> Vec<u8> {
+    let (mut plain, mut fast) = (vec![0; length], vec![0; length]);
+    board.read_page_read(addr, &mut plain).unwrap();
+    board.read_fast_read(addr, &mut fast, true).unwrap();
+    assert_eq!(plain, fast);
+    plain
+}
+
+#[test]
+fn a_save_on_a_slow_device_waits_between_status_transfers() {
+    let mut log = vec![0; 20_000];
+    let mut board = flash(Model::new(slow()), &mut log, AMPLE);
+    board.low_level().bus().bus.load(SECTOR, &[0; 1000]);
+    board.erase_sector(SECTOR).unwrap();
+    assert_eq!(board.low_level().bus().waits, [1, 2, 3]);
+    board.low_level().bus().clear();
+    assert_eq!(board.write_pages(SECTOR + 0x100, &data(1000)), Ok(1000));
+    assert_eq!(board.low_level().bus().waits, (1..=24).collect::<Vec<_>>());
+    assert_eq!(read_back(&mut board, SECTOR + 0x100, 1000), data(1000));
+    assert_eq!(read_back(&mut board, SECTOR, 0x100), [0xFF; 0x100]);
+}
+
+/// How a save of two chunks ends on a device, within a budget, and its accesses.
+fn saved(settings: &Settings, budget: Budget) -> (Result<usize, Error>, usize) {
+    let mut log = vec![0; 20_000];
+    let mut board = flash(Model::new(settings.clone()), &mut log, AMPLE);
+    board.low_level().set_budget(budget);
+    let ended = board.write_pages(SECTOR, &data(256)).map_err(|stopped| stopped.error);
+    (ended, board.low_level().log().len() / 2)
+}
+
+#[test]
+fn the_budget_of_a_save_is_what_it_needs_and_not_one_less() {
+    let prompt = Settings { busy: 3, ..Settings::default() };
+    // Each look in vain is one access more.
+    let looks = (saved(&slow(), AMPLE).1 - saved(&prompt, AMPLE).1) as u32;
+    assert!(looks > 100);
+    for (budget, ended) in [
+        (Budget { looks, busy: 6 }, Ok(256)),
+        (Budget { looks: looks - 1, busy: 6 }, Err(Error::RepliesEnded)),
+        (Budget { looks, busy: 5 }, Err(Error::RepliesEnded)),
+    ] {
+        assert_eq!(saved(&slow(), budget).0, ended, "{budget:?}");
+    }
+}
+
+#[test]
+fn refusals_make_no_access_and_count_what_is_finished() {
+    let mut log = vec![0; 2000];
+    let mut board = flash(Model::default(), &mut log, AMPLE);
+    let stopped = |error, programmed| Err(WritePagesError { error, programmed });
+    assert_eq!(board.erase_sector(0xFF_0000), Err(Error::OutOfRange));
+    assert_eq!(board.erase_sector(0xFFFF_0000), Err(Error::OutOfRange));
+    assert_eq!(board.erase_sector(SECTOR + 4), Err(Error::Alignment));
+    assert_eq!(board.program(0, &data(241)), Err(Error::DataTooLarge));
+    assert_eq!(board.program(0, &data(6)), Err(Error::NotAligned));
+    assert_eq!(board.program(0xF0, &data(20)), Err(Error::CrossesPageBoundary));
+    assert_eq!(board.write_pages(0xFF_FFFC, &data(4)), stopped(Error::OutOfRange, 0));
+    assert_eq!(board.read_page_read(u32::MAX, &mut [0; 2]), Err(Error::AddressSpan));
+    assert!(board.low_level().bus().seen.is_empty() && board.low_level().log().is_empty());
+    assert_eq!(board.write_pages(0xC0, &data(256)), stopped(Error::CrossesPageBoundary, 0));
+    assert_eq!(board.write_pages(0x40, &data(256)), stopped(Error::CrossesPageBoundary, 128));
+    assert_eq!(board.write_pages(0, &data(130)), stopped(Error::NotAligned, 128));
+    assert_eq!(board.write_pages(0xFF_FF80, &data(124)), Ok(124));
+}
+
+#[test]
+fn a_flash_that_reports_an_error_is_cleared_and_not_counted() {
+    let failing = |work, bits| {
+        let failure = Some(Failure { work, after: 1, bits, stays_busy: false });
+        Model::new(Settings { failure, ..Settings::default() })
+    };
+    for chunk in 0..3 {
+        let mut log = vec![0; 4000];
+        let mut board = flash(failing(chunk, 0x40), &mut log, AMPLE);
+        let stopped = board.write_pages(SECTOR, &data(384)).unwrap_err();
+        assert_eq!(stopped, WritePagesError { error: Error::ProgrammingErrorBitSet, programmed: 128 * chunk as usize });
+        assert!(!board.low_level().needs_reset());
+        assert_eq!(board.read_status_register_1().map(|status| status.0), Ok(0));
+    }
+    let mut log = vec![0; 4000];
+    let mut board = flash(failing(0, 0x20), &mut log, AMPLE);
+    assert_eq!(board.erase_sector(SECTOR), Err(Error::EraseErrorBitSet));
+    assert_eq!(board.erase_sector(SECTOR), Ok(()));
+}
+
+#[test]
+fn a_flash_that_stays_at_work_leaves_the_controller_at_rest() {
+    let budget = Budget { looks: 10, busy: 4 };
+    let mut log = vec![0; log_words(Call::WritePages(256), budget)];
+    let settings = Settings { mode: Mode::BusyForEver, ..Settings::default() };
+    let mut board = flash(Model::new(settings), &mut log, budget);
+    let stopped = board.write_pages(SECTOR, &data(256)).unwrap_err();
+    assert_eq!(stopped, WritePagesError { error: Error::RepliesEnded, programmed: 0 });
+    assert_eq!(board.low_level().bus().waits, [1, 2, 3, 4]);
+    assert!(!board.low_level().needs_reset() && board.low_level().bus().bus.is_at_rest());
+    assert!(board.read_status_register_1().unwrap().write_in_progress());
+}
+
+#[test]
+fn the_hook_can_end_a_call() {
+    let mut log = vec![0; 4000];
+    let settings = Settings { mode: Mode::BusyForEver, ..Settings::default() };
+    let wait = |busy| if busy < 7 { ControlFlow::Continue(()) } else { ControlFlow::Break(()) };
+    let controller = QspiLowLevel::new(Waiting { bus: Model::new(settings), wait }, &mut log, AMPLE);
+    let Ok(mut board) = Flash::new(controller, AS_IT_IS) else { panic!("new is refused") };
+    assert_eq!(board.erase_sector(SECTOR), Err(Error::RepliesEnded));
+    // Write enable, erase and seven status transfers.
+    assert_eq!(board.low_level().log().len(), 2 * 12 * 9);
+}
+
+#[test]
+fn after_an_open_transfer_nothing_goes_out_before_initialize() {
+    let mut log = vec![0; 4000];
+    let mut board = flash(Model::default(), &mut log, NOTHING_TO_SPARE);
+    board.low_level().bus().turned = Some(|_| 0);
+    assert_eq!(board.write_enable(), Err(Error::RepliesEnded));
+    assert!(board.low_level().needs_reset());
+    let bus = board.low_level().bus();
+    bus.turned = None;
+    bus.bus = Model::default();
+    bus.clear();
+    for row in rows().filter(|row| row.call != Call::Initialize) {
+        let (controller, ended) = (row.make)(board);
+        assert_eq!(ended, Err(Error::ResetNeeded), "{:?}", row.call);
+        board = Flash::over(controller);
+    }
+    assert_eq!(board.write_pages(SECTOR, &data(4)).unwrap_err().programmed, 0);
+    assert!(board.low_level().bus().seen.is_empty());
+    let initialize = rows().find(|row| row.call == Call::Initialize).unwrap();
+    let (mut controller, ended) = (initialize.make)(board);
+    assert_eq!((ended, controller.needs_reset()), (Ok(()), false));
+    controller.enable_io_mode(false).unwrap();
+    let Ok(mut board) = Flash::new(controller, AS_IT_IS) else { panic!("new is refused") };
+    assert_eq!(board.write_pages(SECTOR, &data(4)), Ok(4));
+}
+
+/// A bus that panics: the operation at hand is left under way, and the next call is refused.
+#[test]
+fn after_a_bus_that_panicked_nothing_goes_out() {
+    struct Panicking(Model, u32);
+    impl Bus for Panicking {
+        fn read(&mut self, offset: u8) -> u32 {
+            self.0.read(offset)
+        }
+        fn write(&mut self, offset: u8, value: u32) {
+            self.1 = self.1.checked_sub(1).expect("a panic, as asked for");
+            self.0.write(offset, value);
+        }
+    }
+    let mut log = vec![0; 4000];
+    let controller = QspiLowLevel::new(Panicking(Model::default(), 9), &mut log, AMPLE);
+    let Ok(mut board) = Flash::new(controller, AS_IT_IS) else { panic!("new is refused") };
+    let caught = std::panic::catch_unwind(std::panic::AssertUnwindSafe(|| board.write_enable()));
+    assert!(caught.is_err());
+    board.low_level().bus().1 = 1000;
+    let accesses = board.low_level().bus().0.accesses();
+    assert_eq!(board.write_enable(), Err(Error::ResetNeeded));
+    assert_eq!(board.write_pages(0, &data(4)).unwrap_err().error, Error::ResetNeeded);
+    assert!(board.low_level().needs_reset());
+    assert_eq!(board.low_level().bus().0.accesses(), accesses);
+}
+
+#[test]
+fn errors_say_what_and_by_which_number() {
+    let stopped = WritePagesError { error: Error::CrossesPageBoundary, programmed: 128 };
+    assert_eq!(stopped.to_string(), "the data would cross the end of a page (5); 128 bytes are programmed");
+    assert_eq!(core::error::Error::source(&stopped).unwrap().to_string(), stopped.error.to_string());
+    assert_eq!((Error::LogFull.number(), Error::ResetNeeded.number()), (Some(24), None));
+}
+
+/// What demand 3 says of a save, after each of its accesses: a log with room for so many ends the save there, as a cut does.
+#[test]
+fn a_save_that_is_cut_after_any_access_leaves_what_its_count_says() {
+    let old: Vec<u8> = (0..1024).map(|i| if i / 16 % 3 == 0 { 0xFF } else { (i * 29) as u8 }).collect();
+    let new = data(388);
+    let (place, mut accesses, mut in_doubt) = (0x100, 0, 0);
+    loop {
+        let mut board_log = vec![0; 4000];
+        let (mut bus, _) = flash(Model::new(slow()), &mut board_log, AMPLE).release().release();
+        bus.bus.load(SECTOR, &old);
+        let mut log = vec![0; 2 * accesses];
+        let mut board = Flash::over(QspiLowLevel::new(bus, &mut log, AMPLE));
+        let ended = board.write_pages(SECTOR + place as u32, &new);
+        let finished = ended.unwrap_or_else(|stopped| stopped.programmed);
+        let model = &board.low_level().bus().bus;
+        for (at, &old) in old.iter().enumerate() {
+            let addr = SECTOR + at as u32;
+            let saved = at.checked_sub(place).filter(|&saved| saved < new.len());
+            let programmed = saved.map_or(old, |saved| old & new[saved]);
+            let is_next = saved.is_some_and(|saved| (finished..finished + 128).contains(&saved));
+            if model.in_doubt().is_some_and(|doubt| doubt.contains(&addr)) {
+                assert!(is_next, "byte {at} is in doubt after {accesses} accesses");
+                in_doubt += 1;
+            } else if is_next {
+                // Not begun, or done and not seen to be so.
+                assert!([old, programmed].contains(&model.byte(addr)), "byte {at} after {accesses} accesses");
+            } else {
+                let expected = if saved.is_some_and(|saved| saved < finished) { programmed } else { old };
+                assert_eq!(model.byte(addr), expected, "byte {at} after {accesses} accesses");
+            }
+        }
+        if ended.is_ok() {
+            assert_eq!(finished, new.len());
+            break;
+        }
+        accesses += 1;
+    }
+    assert!(accesses > 600 && in_doubt > 10_000, "{accesses} accesses, {in_doubt} bytes in doubt");
+}

@@ -1,0 +1,152 @@
+//! A bus that keeps what goes over it, and every call of the package as a row.
+#![allow(dead_code)]
+
+use core::ops::ControlFlow;
+use model::Model;
+use qspi_flash::{AS_IT_IS, Budget, Bus, Call, Config, Error, Flash, Latency, QspiLowLevel, WritePagesError};
+use verified::zedboard_bsp::qspi_spansion::{ConfigRegister1, StatusRegister1};
+use verified::zynq7000::slcr::clocks::SrcSelIo;
+use verified::zynq7000_hal::qspi::{BaudRateConfig, ClockConfig};
+
+/// Keeps each access as its two log words, and how often it was told to wait. From `turned` on the words of reads are not the
+/// bus's own.
+pub struct Recorder<B> {
+    pub bus: B,
+    pub seen: Vec<u32>,
+    pub waits: Vec<u32>,
+    pub turned: Option<fn(u32) -> u32>,
+    pub patience: u32,
+    state: u32,
+}
+
+impl<B> Recorder<B> {
+    pub fn new(bus: B) -> Self {
+        Recorder { bus, seen: Vec::new(), waits: Vec::new(), turned: None, patience: u32::MAX, state: 1 }
+    }
+
+    /// Forgets what it has seen, and answers by itself from now on.
+    pub fn turn(&mut self, seed: u32, answer: fn(u32) -> u32) {
+        self.clear();
+        self.turned = Some(answer);
+        self.state = seed.max(1);
+    }
+
+    pub fn clear(&mut self) {
+        self.seen.clear();
+        self.waits.clear();
+    }
+
+    fn random(&mut self) -> u32 {
+        self.state ^= self.state << 13;
+        self.state ^= self.state >> 17;
+        self.state ^= self.state << 5;
+        self.state
+    }
+}
+
+impl<B: Bus> Bus for Recorder<B> {
+    fn read(&mut self, offset: u8) -> u32 {
+        let random = self.random();
+        let word = self.turned.map_or_else(|| self.bus.read(offset), |answer| answer(random));
+        self.seen.extend([0x100 + u32::from(offset), word]);
+        word
+    }
+
+    fn write(&mut self, offset: u8, value: u32) {
+        self.bus.write(offset, value);
+        self.seen.extend([u32::from(offset), value]);
+    }
+
+    fn wait(&mut self, busy: u32) -> ControlFlow<()> {
+        self.waits.push(busy);
+        if busy >= self.patience { ControlFlow::Break(()) } else { ControlFlow::Continue(()) }
+    }
+}
+
+/// A flash over a bus on which `new` is done.
+pub fn flash<B: Bus>(bus: B, log: &mut [u32], budget: Budget) -> Flash<'_, Recorder<B>> {
+    let controller = QspiLowLevel::new(Recorder::new(bus), log, budget);
+    let Ok(mut flash) = Flash::new(controller, AS_IT_IS) else { panic!("new is refused") };
+    flash.low_level().bus().clear();
+    flash
+}
+
+/// The data of the calls below.
+pub fn data(length: usize) -> Vec<u8> {
+    (0..length).map(|i| (i * 7 + i / 128 + 3) as u8).collect()
+}
+
+const CLOCK: ClockConfig =
+    ClockConfig { src_sel: SrcSelIo::IoPll, ref_clk_div: 5, baud_rate_config: BaudRateConfig::WithLoopback };
+
+const ALL_ASKED: Config =
+    Config { set_quad_bit_if_necessary: true, latency_config: Latency::Code(3), clear_write_protection: true };
+
+pub type Board<'l> = Flash<'l, Recorder<Model>>;
+type Ended<'l> = (QspiLowLevel<'l, Recorder<Model>>, Result<(), Error>);
+
+/// A call as its log depends on it, and how it is made.
+pub struct Row {
+    pub call: Call,
+    pub make: for<'l> fn(Board<'l>) -> Ended<'l>,
+}
+
+macro_rules! rows {
+    ($($call:expr => |$flash:ident| $made:expr,)*) => {
+        &[$(Row {
+            call: $call,
+            make: |mut $flash| {
+                let ended = $made;
+                ($flash.release(), ended)
+            },
+        }),*]
+    };
+}
+
+/// The calls of a flash, each in the shapes that its log can have.
+pub const ROWS: &[Row] = rows! {
+    Call::Initialize => |f| f.low_level().initialize(CLOCK, true, false).map(drop),
+    Call::EnableLinearAddressing => |f| f.low_level().enable_linear_addressing(0x8000_016B),
+    Call::EnableIoMode => |f| f.low_level().enable_io_mode(false),
+    Call::Disable => |f| f.low_level().disable(),
+    Call::SetWriteProtection => |f| f.set_write_protection(5),
+    Call::WriteEnable => |f| f.write_enable(),
+    Call::WriteDisable => |f| f.write_disable(),
+    Call::ClearStatus => |f| f.clear_status(),
+    Call::WriteStatus => |f| f.write_status(StatusRegister1(0x1C)),
+    Call::WriteStatusAndConfigRegister => |f| f.write_status_and_config_register(StatusRegister1(0), ConfigRegister1(2)),
+    Call::ReadStatusRegister1 => |f| f.read_status_register_1().map(drop),
+    Call::ReadConfigurationRegister => |f| f.read_configuration_register().map(drop),
+    Call::ReadRdidBase => |f| f.read_rdid_base().map(drop),
+    Call::ReadRdidExtended => |f| f.read_rdid_extended().map(drop),
+    Call::EraseSector => |f| f.erase_sector(0x03_0000),
+    Call::Program(0) => |f| f.program(0x03_0000, &[]),
+    Call::Program(240) => |f| f.program(0x03_0000, &data(240)),
+    Call::WritePages(0) => |f| pages(f.write_pages(0x03_0000, &[])),
+    Call::WritePages(128) => |f| pages(f.write_pages(0x03_0080, &data(128))),
+    Call::WritePages(388) => |f| pages(f.write_pages(0x03_0000, &data(388))),
+    Call::ReadPageRead(0) => |f| f.read_page_read(0, &mut []),
+    Call::ReadPageRead(1) => |f| f.read_page_read(2, &mut [0; 1]),
+    Call::ReadPageRead(700) => |f| f.read_page_read(3, &mut [0; 700]),
+    Call::ReadFastRead(247, true) => |f| f.read_fast_read(3, &mut [0; 247], true),
+    Call::ReadFastRead(501, true) => |f| f.read_fast_read(3, &mut [0; 501], true),
+    Call::ReadFastRead(496, false) => |f| f.read_fast_read(3, &mut [0; 496], false),
+};
+
+/// `new`, which makes a flash, asked for all that it can do.
+pub const NEW: Row = Row {
+    call: Call::New,
+    make: |flash| match Flash::new(flash.release(), ALL_ASKED) {
+        Ok(flash) => (flash.release(), Ok(())),
+        Err((error, controller)) => (controller, Err(error)),
+    },
+};
+
+/// All of them.
+pub fn rows() -> impl Iterator<Item = &'static Row> {
+    ROWS.iter().chain([&NEW])
+}
+
+fn pages(ended: Result<usize, WritePagesError>) -> Result<(), Error> {
+    ended.map(drop).map_err(|stopped| stopped.error)
+}
