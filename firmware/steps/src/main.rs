@@ -80,9 +80,7 @@ fn proved(data: &[u8], replies: &[u32], log: &mut [u32]) -> usize {
         ) -> usize;
     }
     // SAFETY: each address comes with the length of its slice, and the function has what a slice promises.
-    unsafe {
-        step_cost(ADDR, data.as_ptr(), data.len(), replies.as_ptr(), replies.len(), log.as_mut_ptr(), log.len())
-    }
+    unsafe { step_cost(ADDR, data.as_ptr(), data.len(), replies.as_ptr(), replies.len(), log.as_mut_ptr(), log.len()) }
 }
 
 #[cfg(not(feature = "proved"))]

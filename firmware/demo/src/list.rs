@@ -1,0 +1,12 @@
+//! The published Rust's stored answers, replayed by this processor through the driver.
+use crate::say;
+use crate::uart::Uart;
+use replay::{Memory, replay};
+
+const LIST: &[u8] = include_bytes!("../../../crates/oracle_cases/stdin");
+
+/// Prints a line for each call. `firmware/run` compares them with the stored ones.
+pub fn run(memory: &mut Memory) {
+    replay(LIST, memory, &mut Uart).expect("the serial line takes every byte");
+    say!("END of the list");
+}
