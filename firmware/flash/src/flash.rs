@@ -102,15 +102,12 @@ impl<'l, B: Bus> Flash<'l, B> {
     /// Programs data in chunks of 128 bytes, each of which must lie in one page, and waits for each. Gives the bytes of the
     /// finished chunks: all of them, or those before the error.
     pub fn write_pages(&mut self, addr: u32, data: &[u8]) -> Result<usize, WritePagesError> {
-        if self.low_level.needs_reset() {
-            return Err(WritePagesError { error: Error::ResetNeeded, programmed: 0 });
-        }
         let op = start::write_pages(addr, data.len(), self.low_level.room());
-        let ended = self.low_level.call(op, data, &mut []);
-        let programmed = self.low_level.answer().programmed;
-        match ended {
-            Ok(()) => Ok(programmed),
-            Err(error) => Err(WritePagesError { error, programmed }),
+        match self.low_level.call(op, data, &mut []) {
+            Ok(()) => Ok(self.low_level.answer().programmed),
+            // Not begun: the answer at hand is an earlier call's.
+            Err(error @ Error::ResetNeeded) => Err(WritePagesError { error, programmed: 0 }),
+            Err(error) => Err(WritePagesError { error, programmed: self.low_level.answer().programmed }),
         }
     }
 

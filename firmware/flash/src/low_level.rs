@@ -22,7 +22,8 @@ pub struct QspiLowLevel<'l, B> {
 }
 
 impl<'l, B: Bus> QspiLowLevel<'l, B> {
-    /// Makes no access. [log_words](crate::log_words) says how long a log has to be.
+    /// Makes no access. The controller must be at rest: no transfer was left open. [log_words](crate::log_words) says how long
+    /// a log has to be.
     pub fn new(bus: B, log: &'l mut [u32], budget: Budget) -> Self {
         QspiLowLevel { bus, log, budget, driver: QspiSpansionS25Fl256SIoMode::idle(), reset_needed: false }
     }

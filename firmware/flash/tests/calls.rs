@@ -212,14 +212,19 @@ fn after_a_bus_that_panicked_nothing_goes_out() {
         }
     }
     let mut log = vec![0; 4000];
-    let controller = QspiLowLevel::new(Panicking(Model::default(), 9), &mut log, AMPLE);
+    let controller = QspiLowLevel::new(Panicking(Model::default(), 80), &mut log, AMPLE);
     let Ok(mut board) = Flash::new(controller, AS_IT_IS) else { panic!("new is refused") };
-    let caught = std::panic::catch_unwind(std::panic::AssertUnwindSafe(|| board.write_enable()));
+    let caught = std::panic::catch_unwind(std::panic::AssertUnwindSafe(|| board.write_pages(0, &data(256))));
     assert!(caught.is_err());
+    // The first chunk was finished.
+    assert!(board.low_level().log().len() > 2 * 164);
     board.low_level().bus().1 = 1000;
     let accesses = board.low_level().bus().0.accesses();
+    for _ in 0..2 {
+        let refused = WritePagesError { error: Error::ResetNeeded, programmed: 0 };
+        assert_eq!(board.write_pages(0, &data(4)), Err(refused));
+    }
     assert_eq!(board.write_enable(), Err(Error::ResetNeeded));
-    assert_eq!(board.write_pages(0, &data(4)).unwrap_err().error, Error::ResetNeeded);
     assert!(board.low_level().needs_reset());
     assert_eq!(board.low_level().bus().0.accesses(), accesses);
 }
