@@ -9,6 +9,7 @@ mod list;
 mod memory;
 mod record;
 mod session;
+mod stack;
 mod start;
 mod uart;
 
@@ -19,6 +20,7 @@ use record::Record;
 #[unsafe(no_mangle)]
 extern "C" fn main() -> ! {
     uart::enable();
+    stack::paint();
     let Memory { log, buffer, list } = memory::lend();
     let mut flash = board::ready(log);
     let next = match Record::take() {

@@ -1,6 +1,6 @@
 //! A session with the flash, a line a call: how it ended, with the paper's number of a refusal, and what it did.
 use crate::board::BoardFlash;
-use crate::say;
+use crate::{say, stack};
 use core::fmt;
 use qspi_flash::Error;
 use verified::zedboard_bsp::qspi_spansion::device_id::BaseDeviceId;
@@ -37,6 +37,7 @@ pub fn run(flash: &mut BoardFlash, buffer: &mut [u8]) {
     save(flash, 0xFF_FF80, 128);
     save(flash, 0xFF_FF80, 124);
     fast_read(flash, 0xFF_FF80, &mut buffer[..124]);
+    say!("the stack has {} within {} bytes", if stack::has_stayed() { "stayed" } else { "NOT stayed" }, stack::ROOM);
     say!("END of the session");
 }
 

@@ -18,6 +18,7 @@ pub use error::{Error, WritePagesError};
 pub use flash::Flash;
 pub use low_level::QspiLowLevel;
 pub use room::{Budget, Call, log_words};
+pub use verified;
 pub use verified::qspi_calls::start::{Config, Latency};
 
 /// A flash whose registers [Flash::new] leaves as they are.
