@@ -91,6 +91,7 @@ pub enum ClockCalculation {
 }
 
 // n over d, rounded up.
+// requires { ⌜ 0 < d ⌝ }
 fn div_ceil(n: u32, d: u32) -> u32 {
     if n % d == 0 { n / d } else { n / d + 1 }
 }
@@ -278,6 +279,7 @@ fn config_word(divisor: BaudRateDivisor, phase: bool, polarity: bool) -> u32 {
         + (1 << Config::MODE_SELECT)
 }
 
+// requires { ⌜ divisor < 64 ⌝ }
 fn clk_ctrl_word(divisor: u8, source: SrcSelIo) -> u32 {
     ((divisor as u32) << SingleCommonPeriphIoClockControl::DIVISOR)
         + (source.raw_value() << SingleCommonPeriphIoClockControl::SRCSEL)
