@@ -1,4 +1,4 @@
-//! One case three times: the archive, the run of the erased package, and its driver stepped.
+//! One case in all ways: the archive, the run of the erased package, its driver stepped, and a whole call through that.
 //! Ends and the whole memory are compared, with words and bytes behind what was lent; a panic is a difference too.
 
 use crate::archive;
@@ -16,12 +16,13 @@ struct Room {
     buffer: Vec<u8>,
 }
 
-/// The memory of the three, used again for each case.
+/// The memory of the ways, used again for each case.
 #[derive(Default)]
 pub(crate) struct Rooms {
     archive: Room,
     run: Room,
     stepped: Room,
+    driven: Room,
 }
 
 impl Room {
@@ -37,10 +38,10 @@ impl Room {
     }
 }
 
-/// How the case ended on all three, or what differs.
+/// How the case ended in all ways, or what differs.
 pub(crate) fn check(case: &Case, rooms: &mut Rooms) -> Result<Ended, String> {
-    let Rooms { archive, run, stepped } = rooms;
-    for room in [&mut *archive, &mut *run, &mut *stepped] {
+    let Rooms { archive, run, stepped, driven } = rooms;
+    for room in [&mut *archive, &mut *run, &mut *stepped, &mut *driven] {
         room.refill(case);
     }
     let lent = archive.lent(case);
@@ -51,6 +52,8 @@ pub(crate) fn check(case: &Case, rooms: &mut Rooms) -> Result<Ended, String> {
     let ended = caught(|| ways::stepped(case.call, &case.replies, stepped.lent(case)));
     let ended = ended.ok_or("a step panics")?.map_err(|apart| format!("the steps contradict themselves: {apart:?}"))?;
     same("steps", &proved, archive, &ended, stepped)?;
+    let ended = caught(|| ways::driven(case.call, &case.replies, driven.lent(case)));
+    same("driver", &proved, archive, &ended.ok_or("the driver panics")?, driven)?;
     Ok(proved)
 }
 

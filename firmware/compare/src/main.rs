@@ -1,4 +1,4 @@
-//! Compares the erased package with the proved archive on random calls, in both ways of the package.
+//! Compares the erased package with the proved archive on random calls, in all ways of the package.
 //! `--calls N`, `--seed S`; `--from N` begins at a call, to see one difference again.
 #![forbid(unsafe_code)]
 

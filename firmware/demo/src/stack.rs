@@ -1,15 +1,16 @@
-//! How far the stack reaches. The words of its room are painted before anything is on it, and looked at again later.
+//! How far the stack reaches. Its room and the memory below it are painted before anything is there, and looked at again later.
 use core::sync::atomic::AtomicU32;
 use core::sync::atomic::Ordering::Relaxed;
 
 const PAINT: u32 = 0x5A5A_A5A5;
-/// The room that link.ld keeps for it, in bytes.
+/// The stack's room, in bytes.
 pub const ROOM: usize = 0x1000;
-const WORDS: usize = ROOM / 4;
+/// What is painted, room included: far more than one function could jump over.
+const WORDS: usize = 0x1_0000 / 4;
 /// What `main` itself may have on the stack as it paints.
 const IN_USE: usize = 0x400 / 4;
 
-// SAFETY: link.ld keeps the room free for the stack. Any bits make a word; below the stack pointer nobody writes but the stack.
+// SAFETY: link.ld keeps these words free for the stack. Any bits make a word; below the stack pointer nobody writes but the stack.
 unsafe extern "C" {
     safe static STACK: [AtomicU32; WORDS];
 }
@@ -21,7 +22,7 @@ pub fn paint() {
     }
 }
 
-/// Whether the stack has never come to the end of its room since.
+/// Whether nothing below the room was written since.
 pub fn has_stayed() -> bool {
-    STACK[0].load(Relaxed) == PAINT
+    STACK[..WORDS - ROOM / 4].iter().all(|word| word.load(Relaxed) == PAINT)
 }

@@ -11,9 +11,10 @@ pub trait Bus {
     /// Writes a register.
     fn write(&mut self, offset: u8, value: u32);
 
-    /// The flash is at work: `busy` status transfers of this call have shown it so. Chip select is high, and the next
-    /// transfer asks again. Wait here, so that the budget and the log stay small. `Break` ends the call with
-    /// [RepliesEnded](crate::Error::RepliesEnded), as the end of the budget does.
+    /// The flash is at work: `busy` status transfers in a row have shown it so since the program or erase at hand began. Chip
+    /// select is high, and the next transfer asks again. Wait here, so that budget and log stay small: twice as long each time
+    /// suits both a program and an erase. `Break` ends the call with [RepliesEnded](crate::Error::RepliesEnded), as the end of
+    /// the budget does.
     fn wait(&mut self, busy: u32) -> ControlFlow<()> {
         let _ = busy;
         ControlFlow::Continue(())
@@ -36,7 +37,9 @@ impl<B: Bus> Bus for &mut B {
 
 /// A bus with a way to wait.
 pub struct Waiting<B, W> {
+    /// Makes the accesses.
     pub bus: B,
+    /// What [Bus::wait] does.
     pub wait: W,
 }
 

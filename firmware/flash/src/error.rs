@@ -86,6 +86,7 @@ impl core::error::Error for Error {}
 /// Why a save stopped, and how far it came.
 #[derive(Clone, Copy, Debug, PartialEq, Eq)]
 pub struct WritePagesError {
+    /// Why it stopped.
     pub error: Error,
     /// Bytes of the chunks that are finished: the first so many of the data are in the flash.
     pub programmed: usize,

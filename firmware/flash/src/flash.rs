@@ -36,51 +36,59 @@ impl<'l, B: Bus> Flash<'l, B> {
         self.low_level.command(op)
     }
 
+    /// WREN: sets the latch that a program or an erase needs. Both do it by themselves.
     pub fn write_enable(&mut self) -> Result<(), Error> {
         let op = start::write_enable(self.low_level.room());
         self.low_level.command(op)
     }
 
+    /// WRDI: clears the latch.
     pub fn write_disable(&mut self) -> Result<(), Error> {
         let op = start::write_disable(self.low_level.room());
         self.low_level.command(op)
     }
 
+    /// CLSR: clears the error bits of the status register.
     pub fn clear_status(&mut self) -> Result<(), Error> {
         let op = start::clear_status(self.low_level.room());
         self.low_level.command(op)
     }
 
-    /// It does not wait for the flash.
+    /// WRR of the status register, behind a write enable. It does not wait for the flash.
     pub fn write_status(&mut self, sr: StatusRegister1) -> Result<(), Error> {
         let op = start::write_status(sr.0, self.low_level.room());
         self.low_level.command(op)
     }
 
-    /// It does not wait for the flash.
+    /// WRR of both registers, behind a write enable. It does not wait for the flash. Some bits of the configuration register can
+    /// not be set back.
     pub fn write_status_and_config_register(&mut self, sr: StatusRegister1, cr: ConfigRegister1) -> Result<(), Error> {
         let op = start::write_status_and_config_register(sr.0, cr.0, self.low_level.room());
         self.low_level.command(op)
     }
 
+    /// RDSR1.
     pub fn read_status_register_1(&mut self) -> Result<StatusRegister1, Error> {
         let op = start::read_status_register_1(self.low_level.room());
         self.low_level.command(op)?;
         Ok(StatusRegister1(self.low_level.answer().register()))
     }
 
+    /// RDCR.
     pub fn read_configuration_register(&mut self) -> Result<ConfigRegister1, Error> {
         let op = start::read_configuration_register(self.low_level.room());
         self.low_level.command(op)?;
         Ok(ConfigRegister1(self.low_level.answer().register()))
     }
 
+    /// RDID: manufacturer and device.
     pub fn read_rdid_base(&mut self) -> Result<BaseDeviceId, Error> {
         let op = start::read_rdid_base(self.low_level.room());
         self.low_level.command(op)?;
         Ok(self.low_level.answer().base_device_id())
     }
 
+    /// RDID, its first eight bytes.
     pub fn read_rdid_extended(&mut self) -> Result<ExtendedDeviceId, Error> {
         let op = start::read_rdid_extended(self.low_level.room());
         self.low_level.command(op)?;

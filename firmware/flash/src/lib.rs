@@ -5,6 +5,7 @@
 //! and the caller's time-out ([Budget], [Bus::wait]). README.md has a save, and what to know before relying on it.
 #![no_std]
 #![deny(unsafe_op_in_unsafe_fn)]
+#![warn(missing_docs)]
 
 mod bus;
 mod error;

@@ -6,7 +6,7 @@ use core::ops::ControlFlow;
 use verified::qspi_calls::start;
 use verified::qspi_driver::QspiSpansionS25Fl256SIoMode;
 use verified::qspi_driver::state::{self, Answer, Progress};
-use verified::qspi_operation::{Asked, Op, Reply};
+use verified::qspi_operation::{Asked, Op, Reply, is_going};
 use verified::qspi_script::{Stage, Status};
 use verified::qspi_transfer::Phase;
 use verified::zynq7000_hal::qspi::ClockConfig;
@@ -32,9 +32,14 @@ impl<'l, B: Bus> QspiLowLevel<'l, B> {
     /// the caller's to write. Unlike the Rust's it resets nothing: where [needs_reset](Self::needs_reset) says so, reset the
     /// controller by the SLCR first.
     pub fn initialize(&mut self, clock_config: ClockConfig, phase: bool, polarity: bool) -> Result<u32, Error> {
+        let op = start::initialize(clock_config, phase, polarity, self.log.len());
+        // Refused, it makes no access: what was open stays open.
+        if let Some(error) = Error::of(op.status) {
+            return Err(error);
+        }
         self.driver = QspiSpansionS25Fl256SIoMode::idle();
         self.reset_needed = false;
-        self.command(start::initialize(clock_config, phase, polarity, self.log.len()))?;
+        self.command(op)?;
         Ok(self.answer().lqspi_clk_ctrl())
     }
 
@@ -48,13 +53,16 @@ impl<'l, B: Bus> QspiLowLevel<'l, B> {
         self.command(start::enable_linear_addressing(config, self.log.len()))
     }
 
+    /// Disables the controller, with chip select high. It empties nothing, and takes the place of no reset.
     pub fn disable(&mut self) -> Result<(), Error> {
         self.command(start::disable(self.log.len()))
     }
 
-    /// Whether a call was stopped inside a transfer. Each further one but [initialize](Self::initialize) is then refused.
+    /// Whether a call was stopped inside a transfer, or inside the accesses of this type's own calls. Each further one but
+    /// [initialize](Self::initialize) is then refused.
     pub fn needs_reset(&self) -> bool {
-        self.reset_needed
+        // An operation is under way only where the bus has panicked.
+        self.reset_needed || is_going(self.driver.state.op.status)
     }
 
     /// The log of the last call that was begun.
@@ -67,11 +75,12 @@ impl<'l, B: Bus> QspiLowLevel<'l, B> {
         self.budget = budget;
     }
 
+    /// The bus. Its accesses by others are not in the log, and a transfer of theirs has to be closed.
     pub fn bus(&mut self) -> &mut B {
         &mut self.bus
     }
 
-    /// Gives back what was lent.
+    /// Gives back what was lent. Ask [needs_reset](Self::needs_reset) before: nobody knows it after.
     pub fn release(self) -> (B, &'l mut [u32]) {
         (self.bus, self.log)
     }
@@ -93,7 +102,7 @@ impl<'l, B: Bus> QspiLowLevel<'l, B> {
 
     /// A call from its start to its end. Each turn makes one access or ends the call, and the log has an end: so has this.
     pub(crate) fn call(&mut self, op: Op, data: &[u8], buffer: &mut [u8]) -> Result<(), Error> {
-        if self.reset_needed {
+        if self.needs_reset() {
             return Err(Error::ResetNeeded);
         }
         let mut patience = Patience::new(self.budget);
@@ -133,7 +142,8 @@ impl<'l, B: Bus> QspiLowLevel<'l, B> {
     /// A transfer is over and another one comes.
     fn between(&mut self, over: Stage, patience: &mut Patience) {
         match (over, self.stage()) {
-            (Stage::Program, Stage::Poll) => patience.leave_reply(),
+            (Stage::Program, Stage::Poll) => patience.begin(true),
+            (Stage::Erase, Stage::Poll) => patience.begin(false),
             (Stage::Poll, Stage::Poll) => self.wait(patience),
             _ => {}
         }
@@ -155,11 +165,8 @@ impl<'l, B: Bus> QspiLowLevel<'l, B> {
                 }
                 Error::of(status).map_or(Ok(()), Err)
             }
-            // A bus that panicked has left the operation at hand under way.
-            Answer::Busy => {
-                self.reset_needed = true;
-                Err(Error::ResetNeeded)
-            }
+            // `call` has looked: nothing is under way as it starts.
+            Answer::Busy => Err(Error::ResetNeeded),
         }
     }
 

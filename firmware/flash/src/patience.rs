@@ -8,13 +8,14 @@ pub(crate) struct Patience {
     budget: Budget,
     looks: u32,
     busy: u32,
+    in_a_row: u32,
     left_reply: bool,
     ended: bool,
 }
 
 impl Patience {
     pub fn new(budget: Budget) -> Self {
-        Patience { budget, looks: 0, busy: 0, left_reply: false, ended: false }
+        Patience { budget, looks: 0, busy: 0, in_a_row: 0, left_reply: false, ended: false }
     }
 
     /// Whether no further reply is waited for.
@@ -42,15 +43,18 @@ impl Patience {
         }
     }
 
-    /// A program command takes one reply less than it sends words, so that the next transfer finds one: it costs nothing.
-    pub fn leave_reply(&mut self) {
-        self.left_reply = true;
+    /// A program or an erase has begun. A program command takes one reply less than it sends words, so that the next transfer
+    /// finds one: it costs nothing.
+    pub fn begin(&mut self, leaves_reply: bool) {
+        self.left_reply |= leaves_reply;
+        self.in_a_row = 0;
     }
 
-    /// A status transfer showed the flash at work; how many have.
+    /// A status transfer showed the flash at work; how many have since the work began.
     pub fn busy(&mut self) -> u32 {
         self.ended |= self.busy == self.budget.busy;
         self.busy = self.busy.saturating_add(1);
-        self.busy
+        self.in_a_row = self.in_a_row.saturating_add(1);
+        self.in_a_row
     }
 }

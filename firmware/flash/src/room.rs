@@ -10,33 +10,42 @@ pub struct Budget {
     pub busy: u32,
 }
 
-/// A call, as far as its log depends on it.
-#[derive(Clone, Copy, Debug, PartialEq, Eq)]
-pub enum Call {
-    Initialize,
-    EnableLinearAddressing,
-    EnableIoMode,
-    Disable,
-    New,
-    SetWriteProtection,
-    WriteEnable,
-    WriteDisable,
-    ClearStatus,
-    WriteStatus,
-    WriteStatusAndConfigRegister,
-    ReadStatusRegister1,
-    ReadConfigurationRegister,
-    ReadRdidBase,
-    ReadRdidExtended,
-    EraseSector,
-    /// So many bytes.
-    Program(usize),
-    /// So many bytes.
-    WritePages(usize),
-    /// So many bytes.
-    ReadPageRead(usize),
-    /// So many bytes, with or without a dummy byte.
-    ReadFastRead(usize, bool),
+/// Gives the calls without a length, each by the name of its method.
+macro_rules! calls {
+    ($($call:ident = $method:literal,)*) => {
+        /// A call, as far as its log depends on it.
+        #[derive(Clone, Copy, Debug, PartialEq, Eq)]
+        pub enum Call {
+            $(#[doc = concat!("`", $method, "`.")] $call,)*
+            /// `program` of so many bytes.
+            Program(usize),
+            /// `write_pages` of so many bytes.
+            WritePages(usize),
+            /// `read_page_read` of so many bytes.
+            ReadPageRead(usize),
+            /// `read_fast_read` of so many bytes, with or without a dummy byte.
+            ReadFastRead(usize, bool),
+        }
+    };
+}
+
+calls! {
+    Initialize = "initialize",
+    EnableLinearAddressing = "enable_linear_addressing",
+    EnableIoMode = "enable_io_mode",
+    Disable = "disable",
+    New = "new",
+    SetWriteProtection = "set_write_protection",
+    WriteEnable = "write_enable",
+    WriteDisable = "write_disable",
+    ClearStatus = "clear_status",
+    WriteStatus = "write_status",
+    WriteStatusAndConfigRegister = "write_status_and_config_register",
+    ReadStatusRegister1 = "read_status_register_1",
+    ReadConfigurationRegister = "read_configuration_register",
+    ReadRdidBase = "read_rdid_base",
+    ReadRdidExtended = "read_rdid_extended",
+    EraseSector = "erase_sector",
 }
 
 /// A transfer of one word: four accesses to open it, the word, two to start it, a look, the reply, three to close it.
@@ -68,8 +77,8 @@ impl Call {
             // Two words and two replies more.
             Call::ReadRdidExtended => ONE_WORD + 6,
             Call::EraseSector => 3 * ONE_WORD + FAILURE,
-            Call::Program(length) => program(length as u64) + FAILURE,
-            Call::WritePages(length) => write_pages(length as u64) + FAILURE,
+            Call::Program(length) => program(length as u64).saturating_add(FAILURE),
+            Call::WritePages(length) => write_pages(length as u64).saturating_add(FAILURE),
             Call::ReadPageRead(length) => read(length as u64, false),
             Call::ReadFastRead(length, dummy_byte) => read(length as u64, dummy_byte),
         }
@@ -79,12 +88,12 @@ impl Call {
 /// Write enable, the command with its data, the first status read. A data word and its reply are four accesses, so one a byte.
 /// The command takes no reply of its own: the status read drains it, which costs as much.
 const fn program(length: u64) -> u64 {
-    3 * ONE_WORD + length
+    length.saturating_add(3 * ONE_WORD)
 }
 
 /// Each chunk is a program.
 const fn write_pages(length: u64) -> u64 {
-    length + 3 * ONE_WORD * length.div_ceil(CHUNK)
+    length.saturating_add(3 * ONE_WORD * length.div_ceil(CHUNK))
 }
 
 /// A chunk is a transfer in which each reply takes two looks: 13 accesses, and four for each word behind the command.
@@ -93,7 +102,7 @@ const fn read(length: u64, dummy_byte: bool) -> u64 {
     let chunk = READ_CHUNK - dummy;
     let rest = length % chunk;
     let last = if rest == 0 { 0 } else { 13 + 4 * (rest + dummy).div_ceil(4) };
-    length / chunk * (13 + READ_CHUNK) + last
+    (length / chunk).saturating_mul(13 + READ_CHUNK).saturating_add(last)
 }
 
 /// The log words with which a call never ends by [LogFull](crate::Error::LogFull), whatever the bus answers: where it waits too
@@ -107,6 +116,7 @@ const fn read(length: u64, dummy_byte: bool) -> u64 {
 /// # assert_eq!(log.len(), 2 * (164 + 24 + 12 * 100 + 2 * 4096));
 /// ```
 pub const fn log_words(call: Call, budget: Budget) -> usize {
-    let words = 2 * (call.accesses() + ONE_WORD * budget.busy as u64 + 2 * budget.looks as u64);
+    let waiting = ONE_WORD * budget.busy as u64 + 2 * budget.looks as u64;
+    let words = call.accesses().saturating_add(waiting).saturating_mul(2);
     if words > usize::MAX as u64 { usize::MAX } else { words as usize }
 }

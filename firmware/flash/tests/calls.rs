@@ -2,11 +2,15 @@
 
 mod common;
 
-use common::{Board, data, flash, rows};
+use common::{Board, CLOCK, data, flash, rows};
+use core::cell::Cell;
 use core::ops::ControlFlow;
 use model::{Failure, Mode, Model, Settings};
 use qspi_flash::{AS_IT_IS, Budget, Bus, Call, Error, Flash, QspiLowLevel, Waiting, WritePagesError, log_words};
+use verified::qspi_operation;
+use verified::qspi_script::Status;
 use verified::zedboard_bsp::qspi_spansion::device_id::{Density, DensityCode};
+use verified::zynq7000_hal::qspi::ClockConfig;
 
 const AMPLE: Budget = Budget { looks: 1000, busy: 1000 };
 const NOTHING_TO_SPARE: Budget = Budget { looks: 0, busy: 0 };
@@ -26,6 +30,53 @@ fn every_call_is_done_on_a_prompt_device_with_nothing_to_spare() {
         assert_eq!((ended, controller.needs_reset()), (Ok(()), false), "{:?}", row.call);
         assert_eq!(controller.log().to_vec(), controller.bus().seen, "{:?}", row.call);
         assert!(controller.log().len() <= log_words(row.call, NOTHING_TO_SPARE), "{:?}", row.call);
+    }
+}
+
+/// The replies in a list of accesses.
+fn replies(seen: &[u32]) -> Vec<u32> {
+    seen.chunks_exact(2).filter(|access| access[0] >= 0x100).map(|access| access[1]).collect()
+}
+
+#[test]
+fn each_method_makes_the_call_of_its_name() {
+    for (row, status) in rows().flat_map(|row| [(row, 0), (row, 0x9C)]) {
+        let mut log = vec![0; 20_000];
+        let settings = Settings { status, config_register: 0x40, ..slow() };
+        let (mut controller, ended) = (row.make)(flash(Model::new(settings), &mut log, AMPLE));
+        let seen = &controller.bus().seen;
+        let (mut buffer, mut expected) = (vec![0; row.buffer], vec![0; 20_000]);
+        let op = (row.op)(expected.len());
+        let ran = qspi_operation::run(op, &data(row.data), &mut buffer, &mut expected, &replies(seen));
+        assert_eq!((ended, ran.answer), (Ok(()), Status::Done), "{:?}", row.call);
+        assert_eq!(expected[..ran.op.used], *seen, "{:?}", row.call);
+    }
+}
+
+/// Whether the last accesses left chip select low or the controller enabled.
+fn is_open(log: &[u32]) -> bool {
+    let last = |register| log.chunks_exact(2).rev().find(|access| access[0] == register).map(|access| access[1]);
+    last(0x00).is_some_and(|config| config & 1 << 10 == 0) || last(0x14) == Some(1)
+}
+
+#[test]
+fn a_log_that_ends_anywhere_says_whether_the_controller_rests() {
+    for (row, looks) in rows().flat_map(|row| [(row, 0), (row, 2)]) {
+        for room in 0.. {
+            let mut long = vec![0; 4000];
+            let settings = Settings { looks, busy: 1, ..Settings::default() };
+            let (bus, _) = flash(Model::new(settings), &mut long, AMPLE).release().release();
+            let mut log = vec![0; room];
+            let (mut controller, ended) = (row.make)(Flash::over(QspiLowLevel::new(bus, &mut log, AMPLE)));
+            let needs_reset = controller.needs_reset();
+            if ended.is_ok() {
+                assert!(!needs_reset, "{:?}", row.call);
+                break;
+            }
+            assert_eq!(ended, Err(Error::LogFull), "{:?}", row.call);
+            assert_eq!(needs_reset, !row.transfers() || is_open(controller.log()), "{:?}, {room} words", row.call);
+            assert!(needs_reset || controller.bus().bus.is_at_rest(), "{:?}, {room} words", row.call);
+        }
     }
 }
 
@@ -78,7 +129,7 @@ fn a_save_on_a_slow_device_waits_between_status_transfers() {
     assert_eq!(board.low_level().bus().waits, [1, 2, 3]);
     board.low_level().bus().clear();
     assert_eq!(board.write_pages(SECTOR + 0x100, &data(1000)), Ok(1000));
-    assert_eq!(board.low_level().bus().waits, (1..=24).collect::<Vec<_>>());
+    assert_eq!(board.low_level().bus().waits, [1, 2, 3].repeat(8));
     assert_eq!(read_back(&mut board, SECTOR + 0x100, 1000), data(1000));
     assert_eq!(read_back(&mut board, SECTOR, 0x100), [0xFF; 0x100]);
 }
@@ -160,6 +211,57 @@ fn a_flash_that_stays_at_work_leaves_the_controller_at_rest() {
     assert!(board.read_status_register_1().unwrap().write_in_progress());
 }
 
+/// A flash that is at work for half a second after an erase, for a millisecond after a program.
+struct Timed<'t> {
+    model: Model,
+    now: &'t Cell<u32>,
+    until: u32,
+    /// The first word of a transfer, once it is sent.
+    command: Option<u8>,
+}
+
+impl Bus for Timed<'_> {
+    fn read(&mut self, offset: u8) -> u32 {
+        let word = self.model.read(offset);
+        let is_status = offset == 0x20 && self.command == Some(0x05);
+        if is_status && self.now.get() < self.until { word | 0x0100_0000 } else { word }
+    }
+
+    fn write(&mut self, offset: u8, value: u32) {
+        match offset {
+            0x14 => self.command = None,
+            0x1C | 0x80 | 0x84 => self.command = self.command.or(Some(value as u8)),
+            0x00 if value & 1 << 10 != 0 => match self.command {
+                Some(0xD8) => self.until = self.now.get() + 500_000,
+                Some(0x02) => self.until = self.now.get() + 1000,
+                _ => {}
+            },
+            _ => {}
+        }
+        self.model.write(offset, value);
+    }
+}
+
+/// The numbers of README.md.
+#[test]
+fn waits_that_double_cover_an_erase_of_half_a_second_and_a_save() {
+    let budget = Budget { looks: 4096, busy: 64 };
+    let mut log = vec![0; log_words(Call::WritePages(1024), budget)];
+    let now = Cell::new(0);
+    let wait = |busy: u32| {
+        now.set(now.get() + (100 << busy.min(12)));
+        ControlFlow::Continue(())
+    };
+    let bus = Timed { model: Model::default(), now: &now, until: 0, command: None };
+    let controller = QspiLowLevel::new(Waiting { bus, wait }, &mut log, budget);
+    let Ok(mut board) = Flash::new(controller, AS_IT_IS) else { panic!("new is refused") };
+    assert_eq!(board.erase_sector(SECTOR), Ok(()));
+    // Write enable, erase, twelve status transfers that show it at work and one that does not.
+    assert_eq!((board.low_level().log().len(), now.get()), (2 * 12 * 15, 819_000));
+    assert_eq!(board.write_pages(SECTOR, &data(1024)), Ok(1024));
+    assert!(now.get() < 819_000 + 8 * 2000);
+}
+
 #[test]
 fn the_hook_can_end_a_call() {
     let mut log = vec![0; 4000];
@@ -190,9 +292,14 @@ fn after_an_open_transfer_nothing_goes_out_before_initialize() {
     }
     assert_eq!(board.write_pages(SECTOR, &data(4)).unwrap_err().programmed, 0);
     assert!(board.low_level().bus().seen.is_empty());
-    let initialize = rows().find(|row| row.call == Call::Initialize).unwrap();
-    let (mut controller, ended) = (initialize.make)(board);
-    assert_eq!((ended, controller.needs_reset()), (Ok(()), false));
+    let mut controller = board.release();
+    // Refused, it makes no access and unlocks nothing.
+    let too_wide = ClockConfig { ref_clk_div: 64, ..CLOCK };
+    assert_eq!(controller.initialize(too_wide, true, false), Err(Error::FieldTooWide));
+    assert!(controller.needs_reset() && controller.bus().seen.is_empty());
+    // Divisor 5 of the I/O PLL.
+    assert_eq!(controller.initialize(CLOCK, true, false), Ok(0x501));
+    assert!(!controller.needs_reset());
     controller.enable_io_mode(false).unwrap();
     let Ok(mut board) = Flash::new(controller, AS_IT_IS) else { panic!("new is refused") };
     assert_eq!(board.write_pages(SECTOR, &data(4)), Ok(4));
@@ -217,7 +324,7 @@ fn after_a_bus_that_panicked_nothing_goes_out() {
     let caught = std::panic::catch_unwind(std::panic::AssertUnwindSafe(|| board.write_pages(0, &data(256))));
     assert!(caught.is_err());
     // The first chunk was finished.
-    assert!(board.low_level().log().len() > 2 * 164);
+    assert!(board.low_level().log().len() > 2 * 164 && board.low_level().needs_reset());
     board.low_level().bus().1 = 1000;
     let accesses = board.low_level().bus().0.accesses();
     for _ in 0..2 {
@@ -234,7 +341,25 @@ fn errors_say_what_and_by_which_number() {
     let stopped = WritePagesError { error: Error::CrossesPageBoundary, programmed: 128 };
     assert_eq!(stopped.to_string(), "the data would cross the end of a page (5); 128 bytes are programmed");
     assert_eq!(core::error::Error::source(&stopped).unwrap().to_string(), stopped.error.to_string());
-    assert_eq!((Error::LogFull.number(), Error::ResetNeeded.number()), (Some(24), None));
+    let numbered = [
+        (Error::OutOfRange, 1),
+        (Error::Alignment, 2),
+        (Error::DataTooLarge, 3),
+        (Error::NotAligned, 4),
+        (Error::CrossesPageBoundary, 5),
+        (Error::AddressSpan, 10),
+        (Error::FieldTooWide, 12),
+        (Error::EraseErrorBitSet, 21),
+        (Error::ProgrammingErrorBitSet, 22),
+        (Error::RepliesEnded, 23),
+        (Error::LogFull, 24),
+        (Error::LentLengthChanged, 25),
+    ];
+    for (error, number) in numbered {
+        assert_eq!(error.number(), Some(number));
+        assert!(error.to_string().ends_with(&format!(" ({number})")));
+    }
+    assert_eq!(Error::ResetNeeded.number(), None);
 }
 
 /// What demand 3 says of a save, after each of its accesses: a log with room for so many ends the save there, as a cut does.

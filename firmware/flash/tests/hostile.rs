@@ -75,6 +75,21 @@ fn a_bus_that_never_shows_a_reply_ends_each_transfer_with_23() {
 }
 
 #[test]
+fn a_bus_that_always_shows_a_reply_is_drained_as_long_as_the_budget_lasts() {
+    for row in rows().filter(|row| row.transfers()) {
+        for looks in 0..20 {
+            let budget = Budget { looks, busy: 0 };
+            let outcome = hostile(row, budget, log_words(row.call, budget), 1, |_| u32::MAX);
+            if outcome.used > 0 {
+                // A look, and for each word that is drained its read and another look.
+                assert_eq!((outcome.ended, outcome.used), (Err(Error::RepliesEnded), 2 * (1 + 2 * looks as usize)));
+                assert!(!outcome.needs_reset, "{:?}", row.call);
+            }
+        }
+    }
+}
+
+#[test]
 fn a_log_of_any_length_holds_what_was_made_and_nothing_else_was() {
     let budget = Budget { looks: 3, busy: 1 };
     let mut full = 0;

@@ -1,4 +1,4 @@
-//! The stored list, record by record: each call is made in both ways on memory that is filled beforehand.
+//! The stored list, record by record: each call is made in all ways on memory that is filled beforehand.
 //! Of an input that is no such list it writes `BAD` and the record's number, and nothing after it.
 
 use crate::call::{Call, Ended};
@@ -20,7 +20,7 @@ struct Room {
     buffer: [u8; MOST_DATA],
 }
 
-/// The memory of a case, some 40 KiB: a `static` on a board, or in a box.
+/// The memory of a case, some 60 KiB: a `static` on a board, or in a box.
 pub struct Memory {
     /// The dictionary of the replies.
     words: [u32; MOST_WORDS],
@@ -28,6 +28,7 @@ pub struct Memory {
     data: [u8; MOST_DATA],
     run: Room,
     stepped: Room,
+    driven: Room,
 }
 
 impl Room {
@@ -65,6 +66,7 @@ impl Memory {
             data: [0; MOST_DATA],
             run: Room::new(),
             stepped: Room::new(),
+            driven: Room::new(),
         }
     }
 
@@ -75,6 +77,7 @@ impl Memory {
         }
         self.run.refill();
         self.stepped.refill();
+        self.driven.refill();
     }
 
     /// Takes the replies over, if they are replies.
@@ -137,18 +140,21 @@ fn case(
     }
     memory.refill(record.first);
     let replies = if is_clock_call { 0 } else { body.len() };
-    match both_ways(record, call, replies, memory) {
+    match all_ways(record, call, replies, memory) {
         Ok(ended) => line::ended(out, number, call, &ended, &memory.run.log, &memory.run.buffer)?,
         Err(what) => line::parted(out, number, call, what)?,
     }
     Ok(true)
 }
 
-/// What both ways answer, or what they part in.
-fn both_ways(record: &Record, call: Call, replies: usize, memory: &mut Memory) -> Result<Ended, &'static str> {
-    let Memory { replies: words, data, run, stepped, .. } = memory;
+/// What all ways answer, or what they part in.
+fn all_ways(record: &Record, call: Call, replies: usize, memory: &mut Memory) -> Result<Ended, &'static str> {
+    let Memory { replies: words, data, run, stepped, driven, .. } = memory;
     let replies = &words[..replies];
     let ran = ways::run(call, replies, run.lent(record, call, data));
+    if ways::driven(call, replies, driven.lent(record, call, data)) != ran || driven != run {
+        return Err("run and driver end otherwise");
+    }
     match ways::stepped(call, replies, stepped.lent(record, call, data)) {
         Err(Apart::Lengths) => Err("a step takes other lengths than the start"),
         Err(Apart::Due) => Err("a step makes another access than was due"),

@@ -1,12 +1,13 @@
-//! The two ways of the erased package through a call: the run over replies, and the lent driver stepped by access.
+//! The ways of the erased package through a call: the run over replies, the lent driver stepped access by access, and a whole
+//! call through that driver.
 //! A stepped call also holds the access that `due` shows to the log words and counts of the step that makes it.
 
 use crate::call::{Call, Ended, MOST_VALUES, Start, padded};
 use crate::codes;
 use verified::power_cut::{self, PagesRan};
 use verified::qspi_calls::run::{command, kept, value};
-use verified::qspi_driver::QspiSpansionS25Fl256SIoMode;
 use verified::qspi_driver::state::{Answer, Progress, is_under_way};
+use verified::qspi_driver::{self, QspiSpansionS25Fl256SIoMode};
 use verified::qspi_operation::{self, Asked, Reply, Stepped};
 use verified::qspi_script::{self, Gives, Status};
 use verified::zedboard_bsp::qspi_spansion::device_id::{BaseDeviceId, ExtendedDeviceId};
@@ -93,6 +94,21 @@ fn run_values(call: Call, s: Stepped) -> [u32; MOST_VALUES] {
         }
         Gives::Register | Gives::Clock | Gives::Nothing => padded(&[value(s)]),
     }
+}
+
+/// The call as the driver's own loop makes it.
+pub fn driven(call: Call, replies: &[u32], lent: Lent) -> Ended {
+    let op = match call.start(lent.lengths()) {
+        Start::Answered(ended) => return ended,
+        Start::Operation(op) => op,
+    };
+    let idle = QspiSpansionS25Fl256SIoMode::idle();
+    let driven = match call {
+        Call::WritePages { addr } => qspi_driver::write_pages(idle, addr, lent.data, replies, lent.log),
+        _ => qspi_driver::drive(idle, op, lent.data, lent.buffer, lent.log, replies),
+    };
+    let progress = driven.driver.answer();
+    Ended { answer: driven.answer.number().unwrap_or(u32::MAX), ..step_end(call, progress) }
 }
 
 /// The call stepped over the replies, in order.

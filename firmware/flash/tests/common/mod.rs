@@ -4,6 +4,8 @@
 use core::ops::ControlFlow;
 use model::Model;
 use qspi_flash::{AS_IT_IS, Budget, Bus, Call, Config, Error, Flash, Latency, QspiLowLevel, WritePagesError};
+use verified::qspi_calls::start;
+use verified::qspi_operation::Op;
 use verified::zedboard_bsp::qspi_spansion::{ConfigRegister1, StatusRegister1};
 use verified::zynq7000::slcr::clocks::SrcSelIo;
 use verified::zynq7000_hal::qspi::{BaudRateConfig, ClockConfig};
@@ -76,7 +78,7 @@ pub fn data(length: usize) -> Vec<u8> {
     (0..length).map(|i| (i * 7 + i / 128 + 3) as u8).collect()
 }
 
-const CLOCK: ClockConfig =
+pub const CLOCK: ClockConfig =
     ClockConfig { src_sel: SrcSelIo::IoPll, ref_clk_div: 5, baud_rate_config: BaudRateConfig::WithLoopback };
 
 const ALL_ASKED: Config =
@@ -85,16 +87,29 @@ const ALL_ASKED: Config =
 pub type Board<'l> = Flash<'l, Recorder<Model>>;
 type Ended<'l> = (QspiLowLevel<'l, Recorder<Model>>, Result<(), Error>);
 
-/// A call as its log depends on it, and how it is made.
+/// A call as its log depends on it, the driver's operation for it with the lengths of data and buffer, and how it is made here.
 pub struct Row {
     pub call: Call,
+    pub op: fn(usize) -> Op,
+    pub data: usize,
+    pub buffer: usize,
     pub make: for<'l> fn(Board<'l>) -> Ended<'l>,
 }
 
+impl Row {
+    /// Whether it is made of transfers; else it writes registers and sends nothing.
+    pub fn transfers(&self) -> bool {
+        !matches!(self.call, Call::Initialize | Call::EnableLinearAddressing | Call::EnableIoMode | Call::Disable)
+    }
+}
+
 macro_rules! rows {
-    ($($call:expr => |$flash:ident| $made:expr,)*) => {
+    ($($call:expr, |$log:ident| $op:expr, $data:literal, $buffer:literal => |$flash:ident| $made:expr;)*) => {
         &[$(Row {
             call: $call,
+            op: |$log| $op,
+            data: $data,
+            buffer: $buffer,
             make: |mut $flash| {
                 let ended = $made;
                 ($flash.release(), ended)
@@ -103,39 +118,54 @@ macro_rules! rows {
     };
 }
 
+const SECTOR: u32 = 0x03_0000;
+
 /// The calls of a flash, each in the shapes that its log can have.
 pub const ROWS: &[Row] = rows! {
-    Call::Initialize => |f| f.low_level().initialize(CLOCK, true, false).map(drop),
-    Call::EnableLinearAddressing => |f| f.low_level().enable_linear_addressing(0x8000_016B),
-    Call::EnableIoMode => |f| f.low_level().enable_io_mode(false),
-    Call::Disable => |f| f.low_level().disable(),
-    Call::SetWriteProtection => |f| f.set_write_protection(5),
-    Call::WriteEnable => |f| f.write_enable(),
-    Call::WriteDisable => |f| f.write_disable(),
-    Call::ClearStatus => |f| f.clear_status(),
-    Call::WriteStatus => |f| f.write_status(StatusRegister1(0x1C)),
-    Call::WriteStatusAndConfigRegister => |f| f.write_status_and_config_register(StatusRegister1(0), ConfigRegister1(2)),
-    Call::ReadStatusRegister1 => |f| f.read_status_register_1().map(drop),
-    Call::ReadConfigurationRegister => |f| f.read_configuration_register().map(drop),
-    Call::ReadRdidBase => |f| f.read_rdid_base().map(drop),
-    Call::ReadRdidExtended => |f| f.read_rdid_extended().map(drop),
-    Call::EraseSector => |f| f.erase_sector(0x03_0000),
-    Call::Program(0) => |f| f.program(0x03_0000, &[]),
-    Call::Program(240) => |f| f.program(0x03_0000, &data(240)),
-    Call::WritePages(0) => |f| pages(f.write_pages(0x03_0000, &[])),
-    Call::WritePages(128) => |f| pages(f.write_pages(0x03_0080, &data(128))),
-    Call::WritePages(388) => |f| pages(f.write_pages(0x03_0000, &data(388))),
-    Call::ReadPageRead(0) => |f| f.read_page_read(0, &mut []),
-    Call::ReadPageRead(1) => |f| f.read_page_read(2, &mut [0; 1]),
-    Call::ReadPageRead(700) => |f| f.read_page_read(3, &mut [0; 700]),
-    Call::ReadFastRead(247, true) => |f| f.read_fast_read(3, &mut [0; 247], true),
-    Call::ReadFastRead(501, true) => |f| f.read_fast_read(3, &mut [0; 501], true),
-    Call::ReadFastRead(496, false) => |f| f.read_fast_read(3, &mut [0; 496], false),
+    Call::Initialize, |n| start::initialize(CLOCK, true, false, n), 0, 0
+        => |f| f.low_level().initialize(CLOCK, true, false).map(drop);
+    Call::EnableLinearAddressing, |n| start::enable_linear_addressing(0x8000_016B, n), 0, 0
+        => |f| f.low_level().enable_linear_addressing(0x8000_016B);
+    Call::EnableIoMode, |n| start::enable_io_mode(false, n), 0, 0 => |f| f.low_level().enable_io_mode(false);
+    Call::EnableIoMode, |n| start::enable_io_mode(true, n), 0, 0 => |f| f.low_level().enable_io_mode(true);
+    Call::Disable, |n| start::disable(n), 0, 0 => |f| f.low_level().disable();
+    Call::SetWriteProtection, |n| start::set_write_protection(5, n), 0, 0 => |f| f.set_write_protection(5);
+    Call::WriteEnable, |n| start::write_enable(n), 0, 0 => |f| f.write_enable();
+    Call::WriteDisable, |n| start::write_disable(n), 0, 0 => |f| f.write_disable();
+    Call::ClearStatus, |n| start::clear_status(n), 0, 0 => |f| f.clear_status();
+    Call::WriteStatus, |n| start::write_status(0x1C, n), 0, 0 => |f| f.write_status(StatusRegister1(0x1C));
+    Call::WriteStatusAndConfigRegister, |n| start::write_status_and_config_register(0x08, 2, n), 0, 0
+        => |f| f.write_status_and_config_register(StatusRegister1(0x08), ConfigRegister1(2));
+    Call::ReadStatusRegister1, |n| start::read_status_register_1(n), 0, 0 => |f| f.read_status_register_1().map(drop);
+    Call::ReadConfigurationRegister, |n| start::read_configuration_register(n), 0, 0
+        => |f| f.read_configuration_register().map(drop);
+    Call::ReadRdidBase, |n| start::read_rdid_base(n), 0, 0 => |f| f.read_rdid_base().map(drop);
+    Call::ReadRdidExtended, |n| start::read_rdid_extended(n), 0, 0 => |f| f.read_rdid_extended().map(drop);
+    Call::EraseSector, |n| start::erase_sector(SECTOR, n), 0, 0 => |f| f.erase_sector(SECTOR);
+    Call::Program(0), |n| start::program(SECTOR, 0, n), 0, 0 => |f| f.program(SECTOR, &[]);
+    Call::Program(240), |n| start::program(SECTOR, 240, n), 240, 0 => |f| f.program(SECTOR, &data(240));
+    Call::WritePages(0), |n| start::write_pages(SECTOR, 0, n), 0, 0 => |f| pages(f.write_pages(SECTOR, &[]));
+    Call::WritePages(128), |n| start::write_pages(SECTOR + 0x80, 128, n), 128, 0
+        => |f| pages(f.write_pages(SECTOR + 0x80, &data(128)));
+    Call::WritePages(388), |n| start::write_pages(SECTOR, 388, n), 388, 0
+        => |f| pages(f.write_pages(SECTOR, &data(388)));
+    Call::ReadPageRead(0), |n| start::read_page_read(0, 0, n), 0, 0 => |f| f.read_page_read(0, &mut []);
+    Call::ReadPageRead(1), |n| start::read_page_read(2, 1, n), 0, 1 => |f| f.read_page_read(2, &mut [0; 1]);
+    Call::ReadPageRead(700), |n| start::read_page_read(3, 700, n), 0, 700 => |f| f.read_page_read(3, &mut [0; 700]);
+    Call::ReadFastRead(247, true), |n| start::read_fast_read(3, true, 247, n), 0, 247
+        => |f| f.read_fast_read(3, &mut [0; 247], true);
+    Call::ReadFastRead(501, true), |n| start::read_fast_read(3, true, 501, n), 0, 501
+        => |f| f.read_fast_read(3, &mut [0; 501], true);
+    Call::ReadFastRead(496, false), |n| start::read_fast_read(3, false, 496, n), 0, 496
+        => |f| f.read_fast_read(3, &mut [0; 496], false);
 };
 
 /// `new`, which makes a flash, asked for all that it can do.
 pub const NEW: Row = Row {
     call: Call::New,
+    op: |n| start::new(ALL_ASKED, n),
+    data: 0,
+    buffer: 0,
     make: |flash| match Flash::new(flash.release(), ALL_ASKED) {
         Ok(flash) => (flash.release(), Ok(())),
         Err((error, controller)) => (controller, Err(error)),
