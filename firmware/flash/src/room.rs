@@ -120,3 +120,6 @@ pub const fn log_words(call: Call, budget: Budget) -> usize {
     let words = call.accesses().saturating_add(waiting).saturating_mul(2);
     if words > usize::MAX as u64 { usize::MAX } else { words as usize }
 }
+
+// Also where `usize` has 32 bits.
+const _: () = assert!(log_words(Call::ReadPageRead(usize::MAX), Budget { looks: 0, busy: 0 }) == usize::MAX);

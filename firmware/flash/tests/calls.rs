@@ -263,6 +263,20 @@ fn waits_that_double_cover_an_erase_of_half_a_second_and_a_save() {
 }
 
 #[test]
+fn the_hook_is_called_once_a_status_transfer_is_closed_and_another_one_follows() {
+    for room in 0..2 * 12 * 6 {
+        let mut long = vec![0; 4000];
+        let settings = Settings { mode: Mode::BusyForEver, ..Settings::default() };
+        let (bus, _) = flash(Model::new(settings), &mut long, AMPLE).release().release();
+        let mut log = vec![0; room];
+        let mut board = Flash::over(QspiLowLevel::new(bus, &mut log, AMPLE));
+        assert_eq!(board.erase_sector(SECTOR), Err(Error::LogFull));
+        // Write enable and erase come before.
+        assert_eq!(board.low_level().bus().waits.len(), (room / 24).saturating_sub(2), "{room} words");
+    }
+}
+
+#[test]
 fn the_hook_can_end_a_call() {
     let mut log = vec![0; 4000];
     let settings = Settings { mode: Mode::BusyForEver, ..Settings::default() };
@@ -334,6 +348,9 @@ fn after_a_bus_that_panicked_nothing_goes_out() {
     assert_eq!(board.write_enable(), Err(Error::ResetNeeded));
     assert!(board.low_level().needs_reset());
     assert_eq!(board.low_level().bus().0.accesses(), accesses);
+    let mut controller = board.release();
+    assert_eq!(controller.initialize(CLOCK, false, false), Ok(0x501));
+    assert!(!controller.needs_reset());
 }
 
 #[test]
