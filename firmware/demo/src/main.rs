@@ -1,14 +1,14 @@
-//! The verified driver on a Zynq-7000: a session with the flash, the stored list of calls, then a save whose power is cut
+//! The verified driver on a Zynq-7000: calls of the flash, the stored list of others, then a save whose power is cut
 //! after each of its register accesses. `firmware/run` boots it, reads what it prints and cuts the power.
 #![no_std]
 #![no_main]
 
 mod board;
+mod calls;
 mod cuts;
 mod list;
 mod memory;
 mod record;
-mod session;
 mod stack;
 mod start;
 mod uart;
@@ -25,7 +25,7 @@ extern "C" fn main() -> ! {
     let mut flash = board::ready(log);
     let next = match Record::take() {
         None => {
-            session::run(&mut flash, buffer);
+            calls::run(&mut flash, buffer);
             list::run(list);
             Some(Record::FIRST)
         }

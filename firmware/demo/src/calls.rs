@@ -1,4 +1,4 @@
-//! A session with the flash, a line a call: how it ended, with the paper's number of a refusal, and what it did.
+//! Calls of the flash, a line each: how it ended, with the paper's number of a refusal, and what it did.
 use crate::board::BoardFlash;
 use crate::{say, stack};
 use core::fmt;
@@ -9,7 +9,7 @@ const SECTOR: u32 = 0x03_0000;
 const LAST_SECTOR: u32 = 0xFF_0000;
 const LONGEST: usize = 1024;
 
-/// The bytes that the session saves; no two chunks are alike.
+/// The bytes that are saved; no two chunks are alike.
 static DATA: [u8; LONGEST] = data();
 
 const fn data() -> [u8; LONGEST] {
@@ -38,7 +38,7 @@ pub fn run(flash: &mut BoardFlash, buffer: &mut [u8]) {
     save(flash, 0xFF_FF80, 124);
     fast_read(flash, 0xFF_FF80, &mut buffer[..124]);
     say!("the stack has {} within {} bytes", if stack::has_stayed() { "stayed" } else { "NOT stayed" }, stack::ROOM);
-    say!("END of the session");
+    say!("END of the calls");
 }
 
 /// How a call ended.
