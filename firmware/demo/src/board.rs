@@ -5,7 +5,7 @@ use verified::zynq7000::slcr::clocks::SrcSelIo;
 use verified::zynq7000_hal::qspi::{BaudRateConfig, ClockConfig, FIFO_DEPTH};
 
 /// QEMU's flash is never at work for long, and its replies are there at once.
-const BUDGET: Budget = Budget { looks: 256, busy: 16 };
+pub const BUDGET: Budget = Budget { looks: 256, busy: 16 };
 /// What one call may read.
 pub const LONGEST_READ: usize = 0x1000;
 pub const LOG_WORDS: usize = log_words(Call::ReadFastRead(LONGEST_READ, true), BUDGET);

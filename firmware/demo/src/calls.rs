@@ -8,6 +8,8 @@ use verified::zedboard_bsp::qspi_spansion::device_id::BaseDeviceId;
 const SECTOR: u32 = 0x03_0000;
 const LAST_SECTOR: u32 = 0xFF_0000;
 const LONGEST: usize = 1024;
+const TOP: u32 = 0xFF_FF80;
+const TOP_LENGTH: usize = 124;
 
 /// The bytes that are saved; no two chunks are alike.
 static DATA: [u8; LONGEST] = data();
@@ -34,11 +36,19 @@ pub fn run(flash: &mut BoardFlash, buffer: &mut [u8]) {
     page_read(flash, SECTOR + 0x40, &mut buffer[..128]);
     say!("the array's last byte is out of range, and so is its sector");
     erase(flash, LAST_SECTOR);
-    save(flash, 0xFF_FF80, 128);
-    save(flash, 0xFF_FF80, 124);
-    fast_read(flash, 0xFF_FF80, &mut buffer[..124]);
+    save(flash, TOP, 128);
+    save(flash, TOP, TOP_LENGTH);
+    fast_read(flash, TOP, &mut buffer[..TOP_LENGTH]);
     say!("the stack has {} within {} bytes", if stack::has_stayed() { "stayed" } else { "NOT stayed" }, stack::ROOM);
     say!("END of the calls");
+}
+
+/// What the calls leave at an address outside of the first sector that they use.
+pub fn left(at: usize) -> u8 {
+    match at.checked_sub(TOP as usize) {
+        Some(saved) if saved < TOP_LENGTH => DATA[saved],
+        _ => 0xFF,
+    }
 }
 
 /// How a call ended.

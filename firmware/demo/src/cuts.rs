@@ -1,12 +1,10 @@
 //! Power cuts of a save. Some accesses of it are made, and it is left there; `firmware/run` resets the machine. After
-//! the reset the array is read back and held to the count of programmed bytes.
-use crate::board::BoardFlash;
+//! the reset the sector is read back and held to the count of programmed bytes, and after the last cut the rest of the array.
+use crate::board::{BUDGET, BoardFlash};
 use crate::record::Record;
-use crate::{say, start::halt};
-use qspi_flash::{Bus, Error};
-use verified::qspi_calls::start;
-use verified::qspi_driver::QspiSpansionS25Fl256SIoMode as Driver;
-use verified::qspi_operation::{Asked, Reply, is_going};
+use crate::{calls, say, start::halt};
+use core::ops::Range;
+use qspi_flash::{Error, Flash, QspiLowLevel};
 use verified::zedboard_bsp::qspi_spansion::{RECOMMENDED_PROGRAM_PAGE_SIZE as CHUNK, SECTOR_SIZE};
 use verified::zynq7000::qspi::{CONFIG, Config, TX_DATA_00};
 
@@ -16,6 +14,7 @@ const PLACE: usize = 0x100;
 const LENGTH: usize = 3 * CHUNK;
 /// So much of the sector is programmed before the save, which lies in it.
 const OLD_LENGTH: usize = 0x400;
+const ARRAY: usize = 0x100_0000;
 const PAGE_PROGRAM: u32 = 0x02;
 
 /// The byte that the sector holds before the save. Rows of it are erased, so that bits are met that the save clears and
@@ -53,18 +52,18 @@ static NEW: [u8; LENGTH] = {
     bytes
 };
 
-/// Makes as many accesses of the save as the record says, and waits for the power to go.
+/// Makes as many accesses of the save as the record says, and waits for the power to go: a log with room for so many ends
+/// the save there.
 pub fn cut(mut flash: BoardFlash, next: Record) -> ! {
     prepare(&mut flash).unwrap_or_else(|error| panic!("the sector could not be prepared: {error}"));
-    let (mut bus, log) = flash.release().release();
-    let mut driver = Driver::idle();
-    driver.start(start::write_pages(SECTOR + PLACE as u32, LENGTH, log.len()));
-    for _ in 0..next.accesses {
-        access(&mut driver, &mut bus, &NEW, log);
-    }
-    let answer = driver.answer();
-    let programmed = answer.programmed as u32;
-    Record { programmed, begun: begun(&log[..answer.used]), over: !is_going(answer.status), ..next }.leave();
+    let (bus, log) = flash.release().release();
+    let mut flash = Flash::over(QspiLowLevel::new(bus, &mut log[..2 * next.accesses as usize], BUDGET));
+    let (programmed, over) = match flash.write_pages(SECTOR + PLACE as u32, &NEW) {
+        Ok(all) => (all as u32, true),
+        Err(stopped) if stopped.error == Error::LogFull => (stopped.programmed as u32, false),
+        Err(stopped) => panic!("the save: {stopped}"),
+    };
+    Record { programmed, begun: begun(flash.low_level().log()), over, ..next }.leave();
     say!("cut {} programmed {programmed}", next.accesses);
     halt()
 }
@@ -74,20 +73,6 @@ fn prepare(flash: &mut BoardFlash) -> Result<(), Error> {
     flash.erase_sector(SECTOR)?;
     flash.write_pages(SECTOR, &OLD).map_err(|stopped| stopped.error)?;
     Ok(())
-}
-
-/// Makes the access that is due, unless the log cannot take it: then the step ends the call.
-fn access(driver: &mut Driver, bus: &mut impl Bus, data: &[u8], log: &mut [u32]) {
-    let has_room = log.len() - driver.answer().used >= 2;
-    let reply = match driver.due(data) {
-        Asked::Read(offset) if has_room => Reply::Word(bus.read(offset)),
-        Asked::Write(offset, value) if has_room => {
-            bus.write(offset, value);
-            Reply::Nothing
-        }
-        _ => Reply::Nothing,
-    };
-    driver.step(data, &mut [], log, reply);
 }
 
 /// The chunks of which a log shows a data word: the second word of a page program, and of that transfer.
@@ -107,7 +92,7 @@ fn begun(log: &[u32]) -> u32 {
     chunks
 }
 
-/// Holds the array to the record of the cut, and gives the next one; none after the last.
+/// Holds the sector to the record of the cut, and gives the next one; none after the last.
 pub fn judge(flash: &mut BoardFlash, buffer: &mut [u8], record: Record) -> Option<Record> {
     let Record { accesses, programmed, over, .. } = record;
     let status = flash.read_status_register_1().map_or(0xFF, |status| status.0);
@@ -122,17 +107,32 @@ pub fn judge(flash: &mut BoardFlash, buffer: &mut [u8], record: Record) -> Optio
     let in_doubt = record.in_doubt + u32::from(found.in_doubt);
     if over {
         assert!(programmed as usize == LENGTH, "the save of {LENGTH} bytes ended after {programmed}");
+        judge_rest(flash, buffer);
         say!("END of the cuts: {wrong} wrong, {in_doubt} found a chunk begun that was not counted");
         return None;
     }
     Some(Record { accesses: accesses + 1, wrong, in_doubt, ..Record::FIRST })
 }
 
-/// What was found of the sector.
+/// Holds what no cut may have touched: the array outside of the sector.
+fn judge_rest(flash: &mut BoardFlash, buffer: &mut [u8]) {
+    let sector = SECTOR as usize;
+    for part in [0..sector, sector + SECTOR_SIZE..ARRAY] {
+        let found = read_part(flash, buffer, part, |at| Some(calls::left(at)));
+        let found = found.unwrap_or_else(|error| panic!("the array could not be read: {error}"));
+        if let Some(wrong) = found.wrong {
+            say!("rest wrong: {wrong}");
+            return;
+        }
+    }
+    say!("rest right");
+}
+
+/// What was found of a part of the array.
 struct Found {
     /// The first byte that is not as expected.
     wrong: Option<Wrong>,
-    /// Whether a byte in doubt is not as before the save.
+    /// Whether a byte of which nothing is expected is not as before the save.
     in_doubt: bool,
 }
 
@@ -146,17 +146,29 @@ struct Wrong {
 impl core::fmt::Display for Wrong {
     fn fmt(&self, f: &mut core::fmt::Formatter) -> core::fmt::Result {
         let Wrong { at, found, expected } = *self;
-        write!(f, "at {:06X} found {found:02X}, expected {expected:02X}", SECTOR as usize + at)
+        write!(f, "at {at:06X} found {found:02X}, expected {expected:02X}")
     }
 }
 
+/// Reads the sector, and holds it to the record of a cut.
 fn read_back(flash: &mut BoardFlash, piece: &mut [u8], record: Record) -> Result<Found, Error> {
+    let sector = SECTOR as usize;
+    read_part(flash, piece, sector..sector + SECTOR_SIZE, |at| expected(record, at - sector))
+}
+
+/// Reads a part of the array piece by piece, and holds it to what is expected at each address.
+fn read_part(
+    flash: &mut BoardFlash,
+    piece: &mut [u8],
+    part: Range<usize>,
+    expected: impl Fn(usize) -> Option<u8>,
+) -> Result<Found, Error> {
     let mut all = Found { wrong: None, in_doubt: false };
-    for from in (0..SECTOR_SIZE).step_by(piece.len()) {
-        flash.read_page_read(SECTOR + from as u32, piece)?;
+    for from in part.step_by(piece.len()) {
+        flash.read_page_read(from as u32, piece)?;
         for (at, &found) in (from..).zip(piece.iter()) {
-            match expected(record, at) {
-                None => all.in_doubt |= found != old(at),
+            match expected(at) {
+                None => all.in_doubt |= found != old(at - SECTOR as usize),
                 Some(expected) if found != expected => all.wrong = all.wrong.or(Some(Wrong { at, found, expected })),
                 Some(_) => {}
             }

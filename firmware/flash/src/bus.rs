@@ -1,5 +1,6 @@
 //! What the driver needs of the hardware: one register access at a time, and a place to wait.
 
+use core::fmt;
 use core::ops::ControlFlow;
 use verified::zynq7000::qspi::QSPI_BASE_ADDR;
 
@@ -21,7 +22,7 @@ pub trait Bus {
     }
 }
 
-impl<B: Bus> Bus for &mut B {
+impl<B: Bus + ?Sized> Bus for &mut B {
     fn read(&mut self, offset: u8) -> u32 {
         (**self).read(offset)
     }
@@ -43,6 +44,12 @@ pub struct Waiting<B, W> {
     pub wait: W,
 }
 
+impl<B, W> fmt::Debug for Waiting<B, W> {
+    fn fmt(&self, f: &mut fmt::Formatter<'_>) -> fmt::Result {
+        f.debug_struct("Waiting").finish_non_exhaustive()
+    }
+}
+
 impl<B: Bus, W: FnMut(u32) -> ControlFlow<()>> Bus for Waiting<B, W> {
     fn read(&mut self, offset: u8) -> u32 {
         self.bus.read(offset)
@@ -58,6 +65,7 @@ impl<B: Bus, W: FnMut(u32) -> ControlFlow<()>> Bus for Waiting<B, W> {
 }
 
 /// The register block in memory.
+#[derive(Debug)]
 pub struct Registers {
     block: usize,
 }

@@ -15,14 +15,18 @@ macro_rules! errors {
             /// send ahead of its own. No access is made. Reset the controller, then
             /// [initialize](crate::QspiLowLevel::initialize) it.
             ResetNeeded,
+            /// The flash may be at work for an earlier call: it would ignore this one, and the status that ends that work would be
+            /// taken for this one's. No access is made. [wait_until_idle](crate::Flash::wait_until_idle) first.
+            FlashBusy,
         }
 
         impl Error {
-            /// The number of the refusal; [ResetNeeded](Error::ResetNeeded) has none, it is this package's own.
+            /// The number of the refusal; [ResetNeeded](Error::ResetNeeded) and [FlashBusy](Error::FlashBusy) have none, they are
+            /// this package's own.
             pub const fn number(self) -> Option<u32> {
                 match self {
                     $(Error::$name => Some($number),)*
-                    Error::ResetNeeded => None,
+                    Error::ResetNeeded | Error::FlashBusy => None,
                 }
             }
 
@@ -30,6 +34,7 @@ macro_rules! errors {
                 match self {
                     $(Error::$name => $text,)*
                     Error::ResetNeeded => "an earlier call was stopped inside a transfer: reset the controller",
+                    Error::FlashBusy => "the flash may be at work for an earlier call: wait until it is idle",
                 }
             }
 
@@ -45,8 +50,8 @@ macro_rules! errors {
 }
 
 errors! {
-    /// The sector or the data end above FFFFFF. No access was made.
-    OutOfRange = 1, "the sector or the data end above FFFFFF";
+    /// Address plus length, of a sector 65,536, is above FFFFFF. No access was made.
+    OutOfRange = 1, "address plus length is above FFFFFF";
     /// The sector's address is not a multiple of 65,536. No access was made.
     Alignment = 2, "the address is no start of a sector";
     /// More than 240 bytes for one program command. No access was made.
@@ -55,16 +60,16 @@ errors! {
     NotAligned = 4, "the length is not a multiple of 4";
     /// The data would cross the end of a page.
     CrossesPageBoundary = 5, "the data would cross the end of a page";
-    /// The read would end above 2^32. No access was made.
-    AddressSpan = 10, "the read would end above 2^32";
+    /// Address plus length of a read is above 2^32. No access was made.
+    AddressSpan = 10, "address plus length is above 2^32";
     /// An input is wider than its field. No access was made.
     FieldTooWide = 12, "an input is wider than its field";
     /// The flash reported a failed erase. The status is cleared, writing is disabled.
     EraseErrorBitSet = 21, "the flash reported a failed erase";
     /// The flash reported a failed program. The status is cleared, writing is disabled.
     ProgrammingErrorBitSet = 22, "the flash reported a failed program";
-    /// The budget was used up, or the bus broke off: [needs_reset](crate::QspiLowLevel::needs_reset) says whether a transfer is
-    /// open.
+    /// The budget was used up, or [wait](crate::Bus::wait) broke off. [needs_reset](crate::QspiLowLevel::needs_reset) says whether
+    /// a transfer is open; a program or an erase may still be under way.
     RepliesEnded = 23, "no answer within the budget";
     /// Fewer than two words of log were left for the access that was due, which was not made.
     LogFull = 24, "the log is full";

@@ -2,6 +2,7 @@
 
 use crate::patience::Patience;
 use crate::{Budget, Bus, Error};
+use core::fmt;
 use core::ops::ControlFlow;
 use verified::qspi_calls::start;
 use verified::qspi_driver::QspiSpansionS25Fl256SIoMode;
@@ -19,13 +20,15 @@ pub struct QspiLowLevel<'l, B> {
     budget: Budget,
     driver: QspiSpansionS25Fl256SIoMode,
     reset_needed: bool,
+    flash_busy: bool,
 }
 
 impl<'l, B: Bus> QspiLowLevel<'l, B> {
-    /// Makes no access. The controller must be at rest: no transfer was left open. [log_words](crate::log_words) says how long
-    /// a log has to be.
+    /// Makes no access. No transfer may be open, no word may wait, and the flash may not be at work. [log_words](crate::log_words)
+    /// says how long a log has to be.
     pub fn new(bus: B, log: &'l mut [u32], budget: Budget) -> Self {
-        QspiLowLevel { bus, log, budget, driver: QspiSpansionS25Fl256SIoMode::idle(), reset_needed: false }
+        let driver = QspiSpansionS25Fl256SIoMode::idle();
+        QspiLowLevel { bus, log, budget, driver, reset_needed: false, flash_busy: false }
     }
 
     /// Writes the config word and, with loopback, the loopback delay; gives the word for the SLCR's LQSPI_CLK_CTRL, which is
@@ -58,11 +61,17 @@ impl<'l, B: Bus> QspiLowLevel<'l, B> {
         self.command(start::disable(self.log.len()))
     }
 
-    /// Whether a call was stopped inside a transfer, or inside the accesses of this type's own calls. Each further one but
+    /// Whether a call was stopped inside a transfer, or one of this type's own calls at any place. Each further one but
     /// [initialize](Self::initialize) is then refused.
     pub fn needs_reset(&self) -> bool {
         // An operation is under way only where the bus has panicked.
         self.reset_needed || is_going(self.driver.state.op.status)
+    }
+
+    /// Whether the flash may be at work: a call began a program, an erase or a write of its registers, and no status has shown
+    /// the end. Its calls but for status read and clear status are then refused. A reset of the controller does not stop the flash.
+    pub fn flash_busy(&self) -> bool {
+        self.flash_busy
     }
 
     /// The log of the last call that was begun.
@@ -73,6 +82,11 @@ impl<'l, B: Bus> QspiLowLevel<'l, B> {
     /// For the calls to come.
     pub fn set_budget(&mut self, budget: Budget) {
         self.budget = budget;
+    }
+
+    /// Of each call.
+    pub fn budget(&self) -> Budget {
+        self.budget
     }
 
     /// The bus. Its accesses by others are not in the log, and a transfer of theirs has to be closed.
@@ -108,9 +122,12 @@ impl<'l, B: Bus> QspiLowLevel<'l, B> {
         let mut patience = Patience::new(self.budget);
         let mut answer = self.driver.start(op);
         while state::is_under_way(answer) {
-            let (stage, phase) = (self.stage(), self.phase());
+            let (stage, phase, used) = (self.stage(), self.phase(), self.driver.state.op.used);
             let reply = self.access(data, &mut patience);
             answer = self.driver.step(data, buffer, self.log, reply);
+            if self.driver.state.op.used > used {
+                self.follow(stage);
+            }
             if phase == Phase::Disable && state::is_under_way(answer) {
                 self.between(stage, &mut patience);
             }
@@ -137,6 +154,23 @@ impl<'l, B: Bus> QspiLowLevel<'l, B> {
             }
             Asked::Nothing | Asked::LentLengthChanged => Reply::Nothing,
         }
+    }
+
+    /// Keeps what the flash may be doing, after an access of a stage. A transfer that sets it to work counts from its first access
+    /// on: a reset in the middle raises chip select too.
+    fn follow(&mut self, stage: Stage) {
+        match (stage, self.stage()) {
+            (Stage::Program | Stage::Erase | Stage::WriteStatus | Stage::WriteRegisters, _) => self.flash_busy = true,
+            // The status shows an error: the flash is at work until that is cleared.
+            (Stage::Poll, Stage::Poll | Stage::Clear) => {}
+            (Stage::Poll, _) | (Stage::Clear, Stage::Disable) => self.flash_busy = false,
+            _ => {}
+        }
+    }
+
+    /// What a status read showed of the flash.
+    pub(crate) fn set_flash_busy(&mut self, busy: bool) {
+        self.flash_busy = busy;
     }
 
     /// A transfer is over and another one comes.
@@ -182,5 +216,16 @@ impl<'l, B: Bus> QspiLowLevel<'l, B> {
 
     fn phase(&self) -> Phase {
         self.driver.state.op.wire.phase
+    }
+}
+
+impl<B> fmt::Debug for QspiLowLevel<'_, B> {
+    fn fmt(&self, f: &mut fmt::Formatter<'_>) -> fmt::Result {
+        f.debug_struct("QspiLowLevel")
+            .field("status", &self.driver.state.op.status)
+            .field("reset_needed", &self.reset_needed)
+            .field("flash_busy", &self.flash_busy)
+            .field("budget", &self.budget)
+            .finish_non_exhaustive()
     }
 }

@@ -1,5 +1,5 @@
-//! The calls have the shapes of the embedded-storage traits: an adapter is a few lines. The traits and their helpers stand here as
-//! that crate (0.3) has them, since it cannot be had from every machine.
+//! The calls have the shapes of the embedded-storage traits: the bodies of an adapter are a dozen lines. The traits and their helpers
+//! stand here as that crate (0.3) has them, since it cannot be had from every machine.
 
 use model::Model;
 use nor_flash::{ErrorType, NorFlash, NorFlashError, NorFlashErrorKind, ReadNorFlash};
@@ -38,6 +38,17 @@ mod nor_flash {
         const ERASE_SIZE: usize;
         fn erase(&mut self, from: u32, to: u32) -> Result<(), Self::Error>;
         fn write(&mut self, offset: u32, bytes: &[u8]) -> Result<(), Self::Error>;
+    }
+
+    pub fn check_read<T: ReadNorFlash>(flash: &T, offset: u32, length: usize) -> Result<(), NorFlashErrorKind> {
+        let offset = offset as usize;
+        if length > flash.capacity() || offset > flash.capacity() - length {
+            return Err(NorFlashErrorKind::OutOfBounds);
+        }
+        if (offset | length) & (T::READ_SIZE - 1) != 0 {
+            return Err(NorFlashErrorKind::NotAligned);
+        }
+        Ok(())
     }
 
     pub fn check_erase<T: NorFlash>(flash: &T, from: u32, to: u32) -> Result<(), NorFlashErrorKind> {
@@ -82,6 +93,7 @@ impl<B: Bus> ReadNorFlash for Storage<'_, B> {
     const READ_SIZE: usize = 1;
 
     fn read(&mut self, offset: u32, bytes: &mut [u8]) -> Result<(), NorFlashErrorKind> {
+        nor_flash::check_read(self, offset, bytes.len())?;
         self.0.read_page_read(offset, bytes).map_err(kind)
     }
 
@@ -138,7 +150,6 @@ fn a_caller_of_the_traits_saves_and_reads_back() {
             rewrite(storage, at, &bytes(length), &mut back).unwrap();
             assert_eq!(bytes(length), back, "{length} bytes at {at:06X}");
         }
-        assert_eq!(Storage::<Model>::READ_SIZE, 1);
         let last = storage.capacity() as u32 - 256;
         let mut back = vec![0; 256];
         rewrite(storage, last, &bytes(256), &mut back).unwrap();
@@ -162,6 +173,9 @@ fn what_is_not_aligned_or_out_of_bounds_is_refused_before_any_access() {
         out_of_bounds(storage.erase(0xFE_0000, 0x100_0000));
         out_of_bounds(storage.erase(0x1_0000, 0));
         out_of_bounds(storage.write(0xFFFF_FFFC, &bytes(200)));
+        out_of_bounds(storage.read(0xFF_0000, &mut [0; 1]));
+        out_of_bounds(storage.read(0xFE_FFFF, &mut [0; 2]));
+        out_of_bounds(storage.read(0x100_0000, &mut [0; 1]));
         out_of_bounds(storage.read(u32::MAX, &mut [0; 2]));
         assert_eq!(storage.0.low_level().bus().accesses(), accesses);
     });

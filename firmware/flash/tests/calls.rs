@@ -108,6 +108,7 @@ fn ids_and_registers() {
     assert_eq!(board.read_status_register_1().unwrap().block_protection(), 7);
     assert_eq!(board.read_configuration_register().unwrap().0, 0xC2);
     board.set_write_protection(2).unwrap();
+    board.wait_until_idle().unwrap();
     assert_eq!(board.read_status_register_1().unwrap().block_protection(), 2);
     assert_eq!(board.set_write_protection(8), Err(Error::FieldTooWide));
 }
@@ -190,6 +191,7 @@ fn a_flash_that_reports_an_error_is_cleared_and_not_counted() {
         let stopped = board.write_pages(SECTOR, &data(384)).unwrap_err();
         assert_eq!(stopped, WritePagesError { error: Error::ProgrammingErrorBitSet, programmed: 128 * chunk as usize });
         assert!(!board.low_level().needs_reset());
+        assert!(!board.low_level().flash_busy());
         assert_eq!(board.read_status_register_1().map(|status| status.0), Ok(0));
     }
     let mut log = vec![0; 4000];
@@ -209,6 +211,108 @@ fn a_flash_that_stays_at_work_leaves_the_controller_at_rest() {
     assert_eq!(board.low_level().bus().waits, [1, 2, 3, 4]);
     assert!(!board.low_level().needs_reset() && board.low_level().bus().bus.is_at_rest());
     assert!(board.read_status_register_1().unwrap().write_in_progress());
+}
+
+#[test]
+fn a_flash_that_may_be_at_work_is_not_called_before_it_is_idle() {
+    let mut log = vec![0; 4000];
+    let mut board = flash(Model::new(Settings { busy: 10, ..Settings::default() }), &mut log, AMPLE);
+    board.low_level().set_budget(Budget { looks: 10, busy: 4 });
+    assert_eq!(board.erase_sector(SECTOR), Err(Error::RepliesEnded));
+    assert!(board.low_level().flash_busy() && !board.low_level().needs_reset());
+    board.low_level().bus().clear();
+    for row in rows().filter(|row| row.transfers()) {
+        let obeyed = matches!(row.call, Call::ClearStatus | Call::ReadStatusRegister1);
+        if !obeyed {
+            let (controller, ended) = (row.make)(board);
+            assert_eq!(ended, Err(Error::FlashBusy), "{:?}", row.call);
+            board = Flash::over(controller);
+        }
+    }
+    assert_eq!(board.write_pages(SECTOR, &data(4)), Err(WritePagesError { error: Error::FlashBusy, programmed: 0 }));
+    assert!(board.low_level().bus().seen.is_empty());
+    // A reset of the controller does not stop the flash, and `new` that asks for nothing sends what it obeys.
+    let mut controller = board.release();
+    controller.initialize(CLOCK, false, false).unwrap();
+    controller.enable_io_mode(false).unwrap();
+    let Ok(mut board) = Flash::new(controller, AS_IT_IS) else { panic!("new is refused") };
+    assert!(board.clear_status().is_ok() && board.low_level().flash_busy());
+    assert!(board.read_status_register_1().unwrap().write_in_progress() && board.low_level().flash_busy());
+    board.low_level().bus().clear();
+    assert_eq!(board.wait_until_idle(), Ok(()));
+    assert_eq!(board.low_level().bus().waits, [1, 2, 3, 4]);
+    assert!(!board.low_level().flash_busy());
+    board.low_level().set_budget(AMPLE);
+    assert_eq!(board.write_pages(SECTOR, &data(128)), Ok(128));
+    assert_eq!(read_back(&mut board, SECTOR, 128), data(128));
+}
+
+#[test]
+fn a_call_that_writes_registers_leaves_the_flash_at_work() {
+    for row in rows() {
+        let mut log = vec![0; 4000];
+        let settings = Settings { status: 0x1C, ..Settings::default() };
+        let (controller, ended) = (row.make)(flash(Model::new(settings), &mut log, AMPLE));
+        let writes = [Call::New, Call::SetWriteProtection, Call::WriteStatus, Call::WriteStatusAndConfigRegister];
+        assert_eq!((ended, controller.flash_busy()), (Ok(()), writes.contains(&row.call)), "{:?}", row.call);
+        assert_eq!(Flash::over(controller).wait_until_idle(), Ok(()));
+    }
+}
+
+#[test]
+fn a_flash_that_stays_at_work_is_not_waited_for_without_end() {
+    for (budget, waits) in [(0, 0), (5, 5)] {
+        let mut log = vec![0; 4000];
+        let settings = Settings { mode: Mode::BusyForEver, ..Settings::default() };
+        let mut board = flash(Model::new(settings), &mut log, Budget { looks: 10, busy: budget });
+        assert_eq!(board.erase_sector(SECTOR), Err(Error::RepliesEnded));
+        board.low_level().bus().clear();
+        assert_eq!(board.wait_until_idle(), Err(Error::FlashBusy));
+        assert_eq!(board.low_level().bus().waits.len(), waits);
+        board.low_level().bus().patience = 2;
+        board.low_level().bus().clear();
+        assert_eq!(board.wait_until_idle(), Err(Error::FlashBusy));
+        assert_eq!(board.low_level().bus().waits.len(), waits.min(2));
+    }
+}
+
+/// What the log shows of the flash: work is begun by the words of a program or an erase, and ended by a status that is not busy.
+fn may_be_at_work(log: &[u32]) -> bool {
+    let (mut command, mut reply, mut work) = (None, 0, false);
+    for access in log.chunks_exact(2) {
+        match (access[0], access[1]) {
+            (0x14, 1) => command = None,
+            (0x1C | 0x80 | 0x84 | 0x88, word) => {
+                let command = *command.get_or_insert(word & 0xFF);
+                work |= [0x01, 0x02, 0xD8].contains(&command);
+            }
+            (0x120, word) => reply = word,
+            // The last access of a status transfer: bit 0 of the top byte is busy.
+            (0x14, _) if command == Some(0x05) => work &= reply >> 24 & 1 == 1,
+            _ => {}
+        }
+    }
+    work
+}
+
+#[test]
+fn a_log_that_ends_anywhere_says_whether_the_flash_may_be_at_work() {
+    for row in rows().filter(|row| row.transfers() && row.buffer == 0) {
+        for room in (0..).step_by(2) {
+            let mut long = vec![0; 4000];
+            let settings = Settings { busy: 1, ..Settings::default() };
+            let (bus, _) = flash(Model::new(settings), &mut long, AMPLE).release().release();
+            let mut log = vec![0; room];
+            let (controller, ended) = (row.make)(Flash::over(QspiLowLevel::new(bus, &mut log, AMPLE)));
+            let shown = may_be_at_work(controller.log());
+            // It is taken to be so from the first access of the transfer on, some accesses before its first word.
+            assert!(controller.flash_busy() || !shown, "{:?}, {room} words", row.call);
+            if ended.is_ok() {
+                assert_eq!(controller.flash_busy(), shown, "{:?}", row.call);
+                break;
+            }
+        }
+    }
 }
 
 /// A flash that is at work for half a second after an erase, for a millisecond after a program.
@@ -376,7 +480,7 @@ fn errors_say_what_and_by_which_number() {
         assert_eq!(error.number(), Some(number));
         assert!(error.to_string().ends_with(&format!(" ({number})")));
     }
-    assert_eq!(Error::ResetNeeded.number(), None);
+    assert_eq!((Error::ResetNeeded.number(), Error::FlashBusy.number()), (None, None));
 }
 
 /// What demand 3 says of a save, after each of its accesses: a log with room for so many ends the save there, as a cut does.
