@@ -297,22 +297,37 @@ fn may_be_at_work(log: &[u32]) -> bool {
 
 #[test]
 fn a_log_that_ends_anywhere_says_whether_the_flash_may_be_at_work() {
-    for row in rows().filter(|row| row.transfers() && row.buffer == 0) {
+    let failure = Some(Failure { work: 0, after: 1, bits: 0x60, stays_busy: true });
+    for (row, failure) in rows().flat_map(|row| [(row, None), (row, failure)]).filter(|(row, _)| row.transfers()) {
         for room in (0..).step_by(2) {
             let mut long = vec![0; 4000];
-            let settings = Settings { busy: 1, ..Settings::default() };
+            let settings = Settings { busy: 1, failure, ..Settings::default() };
             let (bus, _) = flash(Model::new(settings), &mut long, AMPLE).release().release();
             let mut log = vec![0; room];
-            let (controller, ended) = (row.make)(Flash::over(QspiLowLevel::new(bus, &mut log, AMPLE)));
-            let shown = may_be_at_work(controller.log());
+            let (mut controller, ended) = (row.make)(Flash::over(QspiLowLevel::new(bus, &mut log, AMPLE)));
+            let (busy, shown) = (controller.flash_busy(), may_be_at_work(controller.log()));
             // It is taken to be so from the first access of the transfer on, some accesses before its first word.
-            assert!(controller.flash_busy() || !shown, "{:?}, {room} words", row.call);
-            if ended.is_ok() {
-                assert_eq!(controller.flash_busy(), shown, "{:?}", row.call);
+            assert!(busy || !shown || failure.is_some(), "{:?}, {room} words", row.call);
+            assert!(busy || controller.bus().bus.status() & 1 == 0, "{:?}, {room} words", row.call);
+            if ended != Err(Error::LogFull) {
+                assert!(!busy || ended.is_ok() && shown, "{:?}", row.call);
                 break;
+            }
+            if controller.log().ends_with(&[0x14, 0]) && failure.is_none() {
+                assert_eq!(busy, shown, "{:?}, {room} words", row.call);
             }
         }
     }
+}
+
+#[test]
+fn a_save_that_a_flash_at_work_does_not_get_counts_nothing() {
+    let mut log = vec![0; 4000];
+    let mut board =
+        flash(Model::new(Settings { busy: 3, ..Settings::default() }), &mut log, Budget { looks: 0, busy: 4 });
+    let stopped = |error, programmed| Err(WritePagesError { error, programmed });
+    assert_eq!(board.write_pages(SECTOR, &data(384)), stopped(Error::RepliesEnded, 128));
+    assert_eq!(board.write_pages(SECTOR, &data(384)), stopped(Error::FlashBusy, 0));
 }
 
 /// A flash that is at work for half a second after an erase, for a millisecond after a program.
