@@ -1,5 +1,5 @@
 //! The calls have the shapes of the embedded-storage traits: the bodies of an adapter are a dozen lines. The traits and their helpers
-//! stand here as that crate (0.3) has them, since it cannot be had from every machine.
+//! stand here as recalled of that crate (0.3), which was not at hand.
 
 use model::Model;
 use nor_flash::{ErrorType, NorFlash, NorFlashError, NorFlashErrorKind, ReadNorFlash};
