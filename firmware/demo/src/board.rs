@@ -33,7 +33,7 @@ pub fn ready(log: &mut [u32]) -> BoardFlash<'_> {
     Flash::new(controller, AS_IT_IS).unwrap_or_else(|(error, _)| panic!("new: {error}"))
 }
 
-/// A reset on QEMU keeps the words that wait to be sent; the part drops them. Here they go out while no chip is
+/// A reset on QEMU keeps the words that wait to be sent; the part is taken to drop them. Here they go out while no chip is
 /// selected: the word of `initialize` would send them to the flash, a write enable for one.
 fn drop_words(bus: &mut impl Bus) {
     let rest = OTHER_SELECTS | SELECT | MANUAL;
