@@ -20,7 +20,7 @@ use Rattle.qspi_operation.specs.Run.{runOf}
 use Rattle.qspi_operation.specs.Machine.{Result, countIn, called}
 use Rattle.qspi_operation.specs.Points.{answeredOf}
 use Rattle.qspi_operation.specs.Follows.{RunFollows, answerBy}
-use Rattle.qspi_operation.specs.Step.{programmedOf}
+use Rattle.qspi_operation.specs.Step.{countedOf}
 use Rattle.qspi_operation.proofs.Runs.{run-job}
 use Rattle.qspi_calls.specs.Begins.{BeginsWith}
 use Rattle.qspi_calls.specs.Calls.{writePages}
@@ -49,7 +49,7 @@ paging a n log = go (ltb 16777215 (a + n))
     go false = refl
 
 -- it gives nothing beside its counts
-pub pages-answer : (s : Stepped) → s .op .job .script .gives ≡ gives.Nothing → answerOf (record { ran = handed s; programmed = programmedOf (s .op) }) ≡ answerBy s
+pub pages-answer : (s : Stepped) → s .op .job .script .gives ≡ gives.Nothing → answerOf (record { ran = handed s; programmed = countedOf (s .op) }) ≡ answerBy s
 pages-answer s e = rw e
 
 module _ (a : ℕ) (bytes rs log : List ℕ) where
@@ -62,7 +62,7 @@ module _ (a : ℕ) (bytes rs log : List ℕ) where
     pub logged : log₁ ≡ loggedOf result log
 
   pub promised : {o : Op} {s : Stepped} {r : Ran} {n : ℕ} {buffer₁ log₁ : List ℕ} → (o ≡ writePagesOf a (length bytes) (length log)) × BeginsWith (length bytes) (length log) (writePages a) o
-      → by-counters.Ran s buffer₁ log₁ (runOf o bytes rs [] log) × RunFollows o bytes [] log rs s buffer₁ log₁ → n ≡ programmedOf (s .op) → r ≡ handed s → Promised (record { ran = r; programmed = n }) log₁
+      → by-counters.Ran s buffer₁ log₁ (runOf o bytes rs [] log) × RunFollows o bytes [] log rs s buffer₁ log₁ → n ≡ countedOf (s .op) → r ≡ handed s → Promised (record { ran = r; programmed = n }) log₁
   promised {o} {s} {buffer₁ = buffer₁} {log₁ = log₁} e h f g =
       let k : Called (writePages a bytes) log [] rs s buffer₁ log₁ = whole-call (writePages a bytes) (record { bytes = bytes; buffer = []; room = length log }) (e .1 bytes refl) (h .1) refl refl in
       let j : s .op .job ≡ pagingJob a (length bytes) (length log) = ap (λ (z : Op). z .job) (h .0 .op) ∙ run-job o bytes rs [] log ∙ ap (λ (z : Op). z .job) (e .0) ∙ paging a (length bytes) (length log) in

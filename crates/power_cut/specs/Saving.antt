@@ -6,7 +6,7 @@ use mathlib.Core.List.{List, []}
 use lib.ListN.{length, getD, take}
 use Rattle.zynq7000.specs.Access.{encode}
 use Rattle.qspi_operation.specs.declared.Op.{Op}
-use Rattle.qspi_operation.specs.Step.{isGoing, programmedOf}
+use Rattle.qspi_operation.specs.Step.{isGoing, countedOf}
 use Rattle.qspi_operation.specs.Machine.{begin}
 use Rattle.qspi_operation.specs.Points.{Lending, sameAs, Point}
 use Rattle.qspi_operation.specs.Follows.{Follows}
@@ -17,7 +17,7 @@ use Rattle.power_cut.specs.declared.PagesRan.{PagesRan}
 
 -- what an operation shows so far
 abbrev pub soFar : Op → PagesRan
-soFar o = record { ran = record { answer = o .status; used = o .used; replies = o .replies }; programmed = programmedOf o }
+soFar o = record { ran = record { answer = o .status; used = o .used; replies = o .replies }; programmed = countedOf o }
 
 -- what a save is lent at its start: data, no buffer, and a log
 abbrev pub lending : List ℕ → List ℕ → Lending

@@ -12,7 +12,8 @@ use Rattle.qspi_script.specs.declared.Gives.the-variants as gives
 use Rattle.qspi_operation.specs.declared.Op.{Op}
 use Rattle.qspi_operation.specs.Machine.{Script}
 use Rattle.qspi_operation.specs.Follows.{Begun}
-use Rattle.qspi_calls.specs.Begins.{Begins, BeginsWith, BeginsInto}
+use Rattle.qspi_calls.specs.Begins.{Begins, BeginsWith, BeginsInto, BeginsList}
+use Rattle.qspi_calls.specs.Sectors.{numbers}
 use Rattle.qspi_calls.specs.Calls as call
 use Rattle.qspi_calls.specs.Starts as start
 use Rattle.qspi_calls.specs.declared.start.Config.{Config}
@@ -20,6 +21,7 @@ use Rattle.qspi_calls.proofs.Tied.{Starts, started}
 use Rattle.qspi_calls.proofs.OneTransfer as one
 use Rattle.qspi_calls.proofs.Several as several
 use Rattle.qspi_calls.proofs.Pages as pages
+use Rattle.qspi_calls.proofs.ListOfSectors as sectors
 use Rattle.qspi_calls.proofs.ReadCalls as reading
 use Rattle.qspi_calls.proofs.LowLevelCalls as low
 
@@ -104,6 +106,13 @@ program a = with-data (start.programOf a) (call.program a) (several.program a)
 
 pub write-pages : (a : ℕ) → WithData (start.writePagesOf a) (call.writePages a)
 write-pages a = with-data (start.writePagesOf a) (call.writePages a) (pages.write-pages a)
+
+pub erase-sectors : (l : List ℕ) (n : ℕ) → n < 2 ^ 64 → (o : Op) → o ≡ start.eraseSectorsOf l n → (o ≡ start.eraseSectorsOf l n) × BeginsList l n o
+erase-sectors l n fits o e =
+    let log : List ℕ = replicate n 0 in
+    let k : length log ≡ n = length-replicate {A = ℕ} n 0 in
+    let y : BeginsList l (length log) (start.eraseSectorsOf l (length log)) = started (start.eraseSectorsOf l (length log)) (numbers l) log [] (call.eraseSectors l) (omega (arith, k, fits)) (sectors.erase-sectors l log) in
+    (e, rw e (rw k at y))
 
 pub read-page-read : (a : ℕ) → IntoBuffer (start.readOf a false false) (call.read false false a)
 read-page-read a = with-buffer (start.readOf a false false) (call.read false false a) (reading.read false false a)

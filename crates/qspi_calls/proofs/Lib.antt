@@ -7,6 +7,8 @@ pub mod OneTransfer
 pub mod ProgramWords
 pub mod Several
 pub mod Pages
+pub mod ListLoops
+pub mod ListOfSectors
 pub mod PageExamples
 pub mod LowLevelCalls
 pub mod ReadBytes

@@ -16,6 +16,7 @@ use Rattle.qspi_script.specs.Turns.{begin, finish, pick, pageChunk, nextPage, s
 use Rattle.qspi_script.specs.declared.Stage.{Stage}
 use Rattle.qspi_script.specs.declared.Stage.the-variants as stage
 use Rattle.qspi_script.specs.declared.Status.the-variants.{Done, OutOfRange, NotAligned, CrossesPageBoundary, ProgrammingErrorBitSet}
+use Rattle.qspi_script.specs.declared.Sequel.the-variants as sequel
 use Rattle.qspi_script.specs.declared.Job.{Job}
 use Rattle.qspi_script.specs.declared.Place.{Place}
 use Rattle.qspi_operation.specs.Machine.{Transfer, Script, ends, counts, onward}
@@ -127,7 +128,7 @@ module _ (a : ℕ) (bytes log : List ℕ) (range : a + length bytes ≤ 16777215
         → Page d (pageChunk (length bytes) d) (programming (a + d) (chunk d)) (counts (length (chunk d)) (rest f d))
 
   abbrev Paging : Stages
-  Paging = Working stage.Program false true ProgrammingErrorBitSet 6 a bytes log Page
+  Paging = Working stage.Program false sequel.Pages ProgrammingErrorBitSet 6 a bytes log Page
 
   abbrev at : Stage → ℕ → ℕ → Place
   at s d n = record { stage = s; done = d; chunk = n; sr = 0; cr = 0 }
@@ -206,7 +207,7 @@ module _ (a : ℕ) (bytes log : List ℕ) (range : a + length bytes ≤ 16777215
       more t
 
   page-scripted : Scripted job bytes [] Paging
-  page-scripted = working-scripted stage.Program false true ProgrammingErrorBitSet 6 a bytes log Page refl (λ d n r. refl) page-same page-word page-clean refl refl (λ st. refl)
+  page-scripted = working-scripted stage.Program false sequel.Pages ProgrammingErrorBitSet 6 a bytes log Page refl (λ d n r. refl) page-same page-word page-clean refl refl (λ st. refl)
 
   pages-start : Starts (start.opened job (nextPage job (start.placeAt stage.Enable 0 0 0))) bytes log [] (pages (chunks a bytes))
   unfolding chunks

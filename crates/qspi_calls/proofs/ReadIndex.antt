@@ -21,11 +21,13 @@ use Rattle.qspi_transfer.specs.declared.Phase.the-variants.{DrainStatus, DrainD
 use Rattle.qspi_transfer.specs.declared.Wire.{Wire}
 use Rattle.qspi_script.specs.Stages.{frameOf, chunkAddress}
 use Rattle.zedboard_bsp.specs.Limits.{largestChunk}
-use Rattle.qspi_script.specs.Turns.{turnOf, pick, begin, finish, settled, pageAt, grown, nextPage, nextChunk}
+use Rattle.qspi_script.specs.Turns.{turnOf, pick, begin, finish, settled, settledBy, pageAt, grown, nextPage, nextChunk}
 use Rattle.qspi_script.specs.declared.Stage.{Stage}
 use Rattle.qspi_script.specs.declared.Stage.the-variants as stage
 use Rattle.qspi_script.specs.declared.Status.{Status}
 use Rattle.qspi_script.specs.declared.Status.the-variants.{Done, OutOfRange, DataTooLarge, NotAligned, CrossesPageBoundary, AddressSpan}
+use Rattle.qspi_script.specs.declared.Sequel.{Sequel}
+use Rattle.qspi_script.specs.declared.Sequel.the-variants.{Once, Pages, Sectors}
 use Rattle.qspi_script.specs.declared.Job.{Job}
 use Rattle.qspi_script.specs.declared.Place.{Place}
 use Rattle.qspi_script.specs.declared.Turned.{Turned}
@@ -247,9 +249,9 @@ data WorkAt (limit : ℕ) : Place → Type 0 where
   work-at : {s : Stage} {d c sr cr : ℕ} → WorkStage s → c ≤ limit → c % 4 ≡ 0 → WorkAt limit (record { stage = s; done = d; chunk = c; sr = sr; cr = cr })
   work-end : {d c sr cr : ℕ} → WorkAt limit (record { stage = stage.End; done = d; chunk = c; sr = sr; cr = cr })
 
-module _ (pages : Bool) (a n log limit : ℕ) (least : 128 ≤ limit) where
+module _ (sequel : Sequel) (a n log limit : ℕ) (least : 128 ≤ limit) where
   abbrev work-job : Job
-  work-job = start.programsJob pages a n log
+  work-job = start.programsJob sequel a n log
 
   work-most : (p : Place) → WorkAt limit p → frameOf work-job p .bytes ≤ limit
   work-most p (work-at is-enable h e) = omega arith
@@ -280,9 +282,17 @@ module _ (pages : Bool) (a n log limit : ℕ) (least : 128 ≤ limit) where
       go false true e true = work-end
       go false true e false = let k : min (n - d) 128 ≤ limit = omega (arith, least) in work-at is-enable k (eqb-true (min (n - d) 128 % 4) 0 e)
 
-  work-settled : (b : Bool) (d c sr cr : ℕ) → WorkAt limit (pick b (nextPage work-job (grown (record { stage = stage.Poll; done = d; chunk = c; sr = sr; cr = cr }))) (finish (record { stage = stage.Poll; done = d; chunk = c; sr = sr; cr = cr }) Done) .place)
-  work-settled true d c sr cr = next-page stage.Poll ((d + c) % 2 ^ 64) c sr cr
-  work-settled false d c sr cr = work-end
+  work-settled : (q : Sequel) (d c sr cr : ℕ) → c ≤ limit → c % 4 ≡ 0 → WorkAt limit (settledBy q work-job (record { stage = stage.Poll; done = d; chunk = c; sr = sr; cr = cr }) .place)
+  work-settled Once d c sr cr h e = work-end
+  work-settled Pages d c sr cr h e = next-page stage.Poll ((d + c) % 2 ^ 64) c sr cr
+  work-settled Sectors d c sr cr h e = go (ltb ((d + 1) % 2 ^ 64) n)
+    where
+      at : Place
+      at = record { stage = stage.Poll; done = (d + 1) % 2 ^ 64; chunk = c; sr = sr; cr = cr }
+
+      go : (x : Bool) → WorkAt limit (pick x (begin at stage.Enable) (finish at Done) .place)
+      go true = work-at is-enable h e
+      go false = work-end
 
   work-turn : (p : Place) → WorkAt limit p → (r : ℕ) → WorkAt limit (turnOf work-job p r .place)
   work-turn p (work-at is-enable h e) r = work-at is-program h e
@@ -295,7 +305,7 @@ module _ (pages : Bool) (a n log limit : ℕ) (least : 128 ≤ limit) where
       go : (x y : Bool) → WorkAt limit (pick x (begin at stage.Clear) (pick y (begin at stage.Poll) (settled work-job at)) .place)
       go true y = work-at is-clear h e
       go false true = work-at is-poll h e
-      go false false = work-settled pages d c sr cr
+      go false false = work-settled sequel d c sr cr h e
   work-turn p (work-at is-clear h e) r = work-at is-disable h e
   work-turn p (work-at is-disable h e) r = work-end
   work-turn p work-end r = work-end
@@ -314,18 +324,18 @@ module _ (pages : Bool) (a n log limit : ℕ) (least : 128 ≤ limit) where
     work-over : (s : Status) → isGoing s ≡ false → WorkHeld (start.over work-job s)
     work-over s e = over e (fresh-bound limit)
 
-program-starts : (a n log : ℕ) (small : 240 < 2 ^ 32) (least : 128 ≤ 240) → WorkHeld false a n log 240 least small (start.programOf a n log)
+program-starts : (a n log : ℕ) (small : 240 < 2 ^ 32) (least : 128 ≤ 240) → WorkHeld Once a n log 240 least small (start.programOf a n log)
 program-starts a n log small least = go (ltb 16777215 (a + n)) (ltb 240 n) refl (eqb (n % 4) 0) refl (ltb 256 (a % 256 + n))
   where
     go : (x₁ x₂ : Bool) → ltb 240 n ≡ x₂ → (x₃ : Bool) → eqb (n % 4) 0 ≡ x₃ → (x₄ : Bool)
-        → WorkHeld false a n log 240 least small
+        → WorkHeld Once a n log 240 least small
         (start.pick x₁ (start.over (start.programmingJob a n log) OutOfRange)
         (start.pick x₂ (start.over (start.programmingJob a n log) DataTooLarge)
         (start.pick x₃ (start.pick x₄ (start.over (start.programmingJob a n log) CrossesPageBoundary) (start.going (start.programmingJob a n log) (start.placeAt stage.Enable n 0 0))) (start.over (start.programmingJob a n log) NotAligned))))
-    go true x₂ e₂ x₃ e₃ x₄ = work-over false a n log 240 least small OutOfRange refl
-    go false true e₂ x₃ e₃ x₄ = work-over false a n log 240 least small DataTooLarge refl
-    go false false e₂ false e₃ x₄ = work-over false a n log 240 least small NotAligned refl
-    go false false e₂ true e₃ true = work-over false a n log 240 least small CrossesPageBoundary refl
+    go true x₂ e₂ x₃ e₃ x₄ = work-over Once a n log 240 least small OutOfRange refl
+    go false true e₂ x₃ e₃ x₄ = work-over Once a n log 240 least small DataTooLarge refl
+    go false false e₂ false e₃ x₄ = work-over Once a n log 240 least small NotAligned refl
+    go false false e₂ true e₃ true = work-over Once a n log 240 least small CrossesPageBoundary refl
     go false false e₂ true e₃ false = goes (work-at is-enable (ltb-false 240 n e₂) (eqb-true (n % 4) 0 e₃)) (fresh-sound _)
 
 -- THEOREM. Of `program`, whatever its address and length, after every number of steps, whatever each is lent and handed: `read_index` is at most 240, at most 236 where a reply is about to be
@@ -334,21 +344,21 @@ pub program-never-wraps : (a n log : ℕ) (o : Op) → Later (start.programOf a 
 program-never-wraps a n log o l =
     let small : 240 < 2 ^ 32 = omega arith in
     let least : 128 ≤ 240 = omega arith in
-    work-never false a n log 240 least small (start.programOf a n log) o (program-starts a n log small least) l
+    work-never Once a n log 240 least small (start.programOf a n log) o (program-starts a n log small least) l
 
-pages-starts : (a n log : ℕ) (small : 128 < 2 ^ 32) (least : 128 ≤ 128) → WorkHeld true a n log 128 least small (start.writePagesOf a n log)
+pages-starts : (a n log : ℕ) (small : 128 < 2 ^ 32) (least : 128 ≤ 128) → WorkHeld Pages a n log 128 least small (start.writePagesOf a n log)
 pages-starts a n log small least = go (ltb 16777215 (a + n))
   where
-    go : (x : Bool) → WorkHeld true a n log 128 least small (start.pick x (start.over (start.pagingJob a n log) OutOfRange) (start.opened (start.pagingJob a n log) (nextPage (start.pagingJob a n log) (start.placeAt stage.Enable 0 0 0))))
-    go true = work-over true a n log 128 least small OutOfRange refl
-    go false = goes (next-page true a n log 128 least stage.Enable 0 0 0 0) (fresh-sound _)
+    go : (x : Bool) → WorkHeld Pages a n log 128 least small (start.pick x (start.over (start.pagingJob a n log) OutOfRange) (start.opened (start.pagingJob a n log) (nextPage (start.pagingJob a n log) (start.placeAt stage.Enable 0 0 0))))
+    go true = work-over Pages a n log 128 least small OutOfRange refl
+    go false = goes (next-page Pages a n log 128 least stage.Enable 0 0 0 0) (fresh-sound _)
 
 -- of `write_pages` it is at most 128, a chunk's bytes
 pub pages-never-wraps : (a n log : ℕ) (o : Op) → Later (start.writePagesOf a n log) o → Never 128 o
 pages-never-wraps a n log o l =
     let small : 128 < 2 ^ 32 = omega arith in
     let least : 128 ≤ 128 = omega arith in
-    work-never true a n log 128 least small (start.writePagesOf a n log) o (pages-starts a n log small least) l
+    work-never Pages a n log 128 least small (start.writePagesOf a n log) o (pages-starts a n log small least) l
 
 -- ---- the reads
 

@@ -29,7 +29,7 @@ use Rattle.qspi_calls.proofs.Registers.{Call, write-enable, write-disab
 -- the one before
 pub record Untouched (c : Script) (log buffer replies : List ℕ) (a : Status) : Type 0 where
   pub accesses : called c (length log / 2) replies .log ≡ []
-  pub answer : answeredOf (called c (length log / 2) replies) ≡ record { says = saidBy a []; used = 0; replies = 0; programmed = 0 }
+  pub answer : answeredOf (called c (length log / 2) replies) ≡ record { says = saidBy a []; used = 0; replies = 0; counted = 0 }
   pub logged : loggedOf (called c (length log / 2) replies) log ≡ log
   pub stored : bufferedOf (called c (length log / 2) replies) buffer ≡ buffer
 

@@ -20,7 +20,7 @@ use Rattle.qspi_script.specs.declared.Place.{Place}
 use Rattle.qspi_script.specs.declared.Turned.{Turned}
 use Rattle.qspi_operation.specs.declared.Op.{Op}
 use Rattle.qspi_operation.specs.Store.{when, stored, isReading, isTaking}
-use Rattle.qspi_operation.specs.Step.{isGoing, accessOf, movedBy, programmedAt}
+use Rattle.qspi_operation.specs.Step.{isGoing, accessOf, movedBy, countedAt}
 use Rattle.qspi_operation.proofs.Verdicts.{no}
 use Rattle.qspi_operation.specs.Machine.{Action, drain, Midway, nothing, wantAt, Transfer, opening, Script, ends, repeats, counts, none, exchange, State, going, ended, onward, begin, want, next, statusIn, valuesIn, bytesIn, countIn, overlaid}
 use Rattle.qspi_calls.proofs.Tied.{asked, after, given, Tie}
@@ -46,23 +46,23 @@ some-want (p-end f) e = let z : _≡_ {A = ℕ} 0 1 = cc in omega arith
 module _ (job : Job) (bytes buffer₀ : List ℕ) (At : Place → Transfer → (List ℕ → Script) → Type 0) where
   -- after a transfer, with so many bytes programmed: another one, the same one again, the end, or more bytes programmed
   pub data Turns (t : Turned) (w : Wire) : ℕ → Script → Type 0 where
-    on : {n : ℕ} {x : Transfer} {k : List ℕ → Script} → t .status ≡ Going → n ≡ programmedAt job (t .place) → At (t .place) x k → Turns t w n (exchange x k)
-    again : {n : ℕ} {x : Transfer} {still : List ℕ → Bool} {k : List ℕ → Script} → t .status ≡ Going → n ≡ programmedAt job (t .place)
+    on : {n : ℕ} {x : Transfer} {k : List ℕ → Script} → t .status ≡ Going → n ≡ countedAt job (t .place) → At (t .place) x k → Turns t w n (exchange x k)
+    again : {n : ℕ} {x : Transfer} {still : List ℕ → Bool} {k : List ℕ → Script} → t .status ≡ Going → n ≡ countedAt job (t .place)
         → At (t .place) x (λ rs. onward (still rs) (repeats drain (opening x) still k) (k rs)) → Turns t w n (repeats drain (opening x) still k)
-    over : {n : ℕ} {a : Status} {vs : List ℕ} → isGoing a ≡ false → t .status ≡ a → n ≡ programmedAt job (t .place) → saidBy a (given job w) ≡ saidBy a vs → Turns t w n (ends a vs)
+    over : {n : ℕ} {a : Status} {vs : List ℕ} → isGoing a ≡ false → t .status ≡ a → n ≡ countedAt job (t .place) → saidBy a (given job w) ≡ saidBy a vs → Turns t w n (ends a vs)
     more : {n j : ℕ} {z : Script} → Turns t w (n + j) z → Turns t w n (counts j z)
 
   pub record Scripted : Type 0 where
     pub same : (p : Place) (x : Transfer) (k : List ℕ → Script) → At p x k → Same (frameOf job p) x
     pub word : (p : Place) (x : Transfer) (k : List ℕ → Script) → At p x k → (i : ℕ) → i < length (words x) → dueWord job p i bytes ≡ getD (words x) i 0
     pub turn : (p : Place) (x : Transfer) (k : List ℕ → Script) → At p x k → (c i b : ℕ) (taken : List ℕ) → length taken ≡ x .replies
-        → Turns (turnOf job p (getD taken 0 0)) (wire Disable c i b taken) (programmedAt job p) (k (reverse taken))
+        → Turns (turnOf job p (getD taken 0 0)) (wire Disable c i b taken) (countedAt job p) (k (reverse taken))
     pub unread : (p : Place) (x : Transfer) (k : List ℕ → Script) → At p x k → isReading (p .stage) ≡ false
 
   pub data Rel : Place → Wire → Status → State → Type 0 where
-    rel-on : {p : Place} {w : Wire} {x : Transfer} {k : List ℕ → Script} {m : Midway} {a : Action} {l : List Action} {taken : List ℕ} {n : ℕ} → n ≡ programmedAt job p → At p x k → AtPhase x w m a l taken
+    rel-on : {p : Place} {w : Wire} {x : Transfer} {k : List ℕ → Script} {m : Midway} {a : Action} {l : List Action} {taken : List ℕ} {n : ℕ} → n ≡ countedAt job p → At p x k → AtPhase x w m a l taken
         → Rel p w Going (going m a l taken none k [] n)
-    rel-over : {p : Place} {w : Wire} {a : Status} {vs : List ℕ} {n : ℕ} → n ≡ programmedAt job p → isGoing a ≡ false → saidBy a (given job w) ≡ saidBy a vs → Rel p w a (ended a vs [] n)
+    rel-over : {p : Place} {w : Wire} {a : Status} {vs : List ℕ} {n : ℕ} → n ≡ countedAt job p → isGoing a ≡ false → saidBy a (given job w) ≡ saidBy a vs → Rel p w a (ended a vs [] n)
 
   module _ (s : Scripted) where
     abbrev o : Place → Wire → Op
@@ -74,7 +74,7 @@ module _ (job : Job) (bytes buffer₀ : List ℕ) (At : Place → Transfer → (
     turned w t (over g e c f) = rw (e, g) (rel-over c g f)
     turned w t (more h) = turned w t h
 
-    rel-moved : (p : Place) {x : Transfer} {k : List ℕ → Script} {w : Wire} {taken : List ℕ} {z : State} {y : Moved} → At p x k → Goes x none k [] (programmedAt job p) w taken z y
+    rel-moved : (p : Place) {x : Transfer} {k : List ℕ → Script} {w : Wire} {taken : List ℕ} {z : State} {y : Moved} → At p x k → Goes x none k [] (countedAt job p) w taken z y
         → Rel (movedBy y (o p w) 0 0 .op .place) (movedBy y (o p w) 0 0 .op .wire) (movedBy y (o p w) 0 0 .op .status) z
     rel-moved p q (goes-on g) = rel-on refl q g
     rel-moved p {x} {k} {w} {taken} q (goes-over c i b e f) = rw e (turned (wire Disable c i b taken) (turnOf job p (getD taken 0 0)) (s .turn p x k q c i b taken f))
@@ -88,7 +88,7 @@ module _ (job : Job) (bytes buffer₀ : List ℕ) (At : Place → Transfer → (
     rel-some p w z (rel-over c g f) e = no (sym g)
 
     rel-steps : (p : Place) (w : Wire) (z : State) (v : ℕ) → Rel p w Going z → Rel (after job p w v .place) (after job p w v .wire) (after job p w v .status) (next z v)
-    rel-steps p w z v (rel-on {x = x} {k = k} c q h) = rw c (rel-moved p q (wire-same x none k [] (programmedAt job p) (frameOf job p) v (s .same p x k q) h))
+    rel-steps p w z v (rel-on {x = x} {k = k} c q h) = rw c (rel-moved p q (wire-same x none k [] (countedAt job p) (frameOf job p) v (s .same p x k q) h))
     rel-steps p w z v (rel-over c g f) = no (sym g)
 
     rel-ends : (p : Place) (w : Wire) (a : Status) (z : State) → Rel p w a z → isGoing a ≡ false → (want z ≡ nothing) × (a ≡ statusIn z)
@@ -99,7 +99,7 @@ module _ (job : Job) (bytes buffer₀ : List ℕ) (At : Place → Transfer → (
     rel-values p w a z (rel-on c q h) e = no (sym e)
     rel-values p w a z (rel-over c g f) e = f
 
-    rel-counts : (p : Place) (w : Wire) (a : Status) (z : State) → Rel p w a z → countIn z ≡ programmedAt job p
+    rel-counts : (p : Place) (w : Wire) (a : Status) (z : State) → Rel p w a z → countIn z ≡ countedAt job p
     rel-counts p w a z (rel-on c q h) = c
     rel-counts p w a z (rel-over c g f) = c
 

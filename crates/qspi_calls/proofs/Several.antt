@@ -1,6 +1,6 @@
 -- The calls of several transfers, each tied to its script stage by stage. Assumes nothing.
 use mathlib.Core.Path.{_≡_, refl, ap, _∙_, sym}
-use mathlib.Core.Bool.{Bool, true, false, not, _&&_, _||_}
+use mathlib.Core.Bool.{Bool, true, false, cond, not, _&&_, _||_}
 use mathlib.Core.List.{List, [], _∷_, reverse}
 use Prim.Native.Nat.{ℕ, zero, suc, _+_, _-_, _%_, _^_, _≤_, _<_}
 use native.Mathlib.Omega.{arith}
@@ -19,12 +19,14 @@ use Rattle.qspi_script.specs.declared.Stage.{Stage}
 use Rattle.qspi_script.specs.declared.Stage.the-variants as stage
 use Rattle.qspi_script.specs.declared.Status.{Status}
 use Rattle.qspi_script.specs.declared.Status.the-variants.{Going, Done, OutOfRange, Alignment, DataTooLarge, NotAligned, CrossesPageBoundary, FieldTooWide, EraseErrorBitSet, ProgrammingErrorBitSet}
+use Rattle.qspi_script.specs.declared.Sequel.{Sequel}
+use Rattle.qspi_script.specs.declared.Sequel.the-variants.{Once}
 use Rattle.qspi_script.specs.declared.Job.{Job}
 use Rattle.qspi_script.specs.declared.Place.{Place}
 use Rattle.qspi_script.specs.declared.Turned.{Turned}
 use Rattle.qspi_operation.specs.declared.Op.{Op}
 use Rattle.qspi_operation.specs.Store.{isReading}
-use Rattle.qspi_operation.specs.Step.{isGoing, programmedAt}
+use Rattle.qspi_operation.specs.Step.{isGoing, countedAt}
 use Rattle.qspi_operation.specs.Machine.{Transfer, Script, ends, exchange, onward}
 use Rattle.qspi_calls.specs.Calls as call
 use Rattle.qspi_calls.specs.Calls.{enabling, disabling, clearing, statusReading, configReading, statusWriting, registersWriting, top, done, refused}
@@ -45,7 +47,7 @@ Stages = Place → Transfer → (List ℕ → Script) → Type 0
 
 -- a call that begins with a transfer of its script
 begins : (job : Job) (bytes log : List ℕ) (At : Stages) → Scripted job bytes [] At → (p : Place) (x : Transfer) (k : List ℕ → Script) → At p x k
-    → 0 ≡ programmedAt job p → length bytes ≡ job .lent .«data» → length log ≡ job .lent .log → 0 ≡ job .lent .buffer → Starts (start.going job p) bytes log [] (exchange x k)
+    → 0 ≡ countedAt job p → length bytes ≡ job .lent .«data» → length log ≡ job .lent .log → 0 ≡ job .lent .buffer → Starts (start.going job p) bytes log [] (exchange x k)
 begins job bytes log At s p x k q n d l b = record {
   job = job;
   place = p;
@@ -95,9 +97,9 @@ module _ (job : Job) (bytes : List ℕ) (At : Stages) where
   Turn t w n z = Turns job bytes [] At t w n z
 
   -- a transfer of one reply
-  one-reply : (p : Place) (c i b : ℕ) (taken : List ℕ) (k : List ℕ → Script) → length taken ≡ 1 → ((r : ℕ) → Turn (turnOf job p r) (wire phase.Disable c i b (r ∷ [])) (programmedAt job p) (k (r ∷ [])))
-      → Turn (turnOf job p (getD taken 0 0)) (wire phase.Disable c i b taken) (programmedAt job p) (k (reverse taken))
-  one-reply p c i b taken k e h = of-one taken (λ t. Turn (turnOf job p (getD t 0 0)) (wire phase.Disable c i b t) (programmedAt job p) (k (reverse t))) e h
+  one-reply : (p : Place) (c i b : ℕ) (taken : List ℕ) (k : List ℕ → Script) → length taken ≡ 1 → ((r : ℕ) → Turn (turnOf job p r) (wire phase.Disable c i b (r ∷ [])) (countedAt job p) (k (r ∷ [])))
+      → Turn (turnOf job p (getD taken 0 0)) (wire phase.Disable c i b taken) (countedAt job p) (k (reverse taken))
+  one-reply p c i b taken k e h = of-one taken (λ t. Turn (turnOf job p (getD t 0 0)) (wire phase.Disable c i b t) (countedAt job p) (k (reverse t))) e h
 
   picked : (b : Bool) {t₁ t₂ : Turned} {w : Wire} {n : ℕ} {z₁ z₂ : Script} → Turn t₁ w n z₁ → Turn t₂ w n z₂ → Turn (pick b t₁ t₂) w n (onward b z₁ z₂)
   picked true h₁ h₂ = h₁
@@ -124,7 +126,7 @@ module _ (s : Stage) (x : Transfer) (sr cr : ℕ) (log : List ℕ) where
     e-word p y k first-then = word
 
     e-turn : (p : Place) (y : Transfer) (k : List ℕ → Script) → Enabled p y k → (c i b : ℕ) (taken : List ℕ) → length taken ≡ y .replies
-        → Turns enabled-job [] [] Enabled (turnOf enabled-job p (getD taken 0 0)) (wire phase.Disable c i b taken) (programmedAt enabled-job p) (k (reverse taken))
+        → Turns enabled-job [] [] Enabled (turnOf enabled-job p (getD taken 0 0)) (wire phase.Disable c i b taken) (countedAt enabled-job p) (k (reverse taken))
     e-turn p y k first-enable c i b taken e = one-reply enabled-job [] Enabled p c i b taken k e (λ r. on going refl first-then)
     e-turn p y k first-then c i b taken e = one-reply enabled-job [] Enabled p c i b taken k (e ∙ one) (λ r. rw (ends-here r) (over refl refl refl refl))
 
@@ -178,7 +180,7 @@ module _ (quad setLatency : Bool) (latency : ℕ) (clear : Bool) (log : List ℕ
   may-update false false false = over refl refl refl refl
 
   n-turn : (p : Place) (y : Transfer) (k : List ℕ → Script) → New p y k → (c i b : ℕ) (taken : List ℕ) → length taken ≡ y .replies
-      → Turns new-job [] [] New (turnOf new-job p (getD taken 0 0)) (wire phase.Disable c i b taken) (programmedAt new-job p) (k (reverse taken))
+      → Turns new-job [] [] New (turnOf new-job p (getD taken 0 0)) (wire phase.Disable c i b taken) (countedAt new-job p) (k (reverse taken))
   n-turn p y k new-clear c i b taken e = one-reply new-job [] New p c i b taken k e (λ r. may-update quad setLatency clear)
   n-turn p y k new-config c i b taken e = one-reply new-job [] New p c i b taken k e (λ r. on refl refl new-status)
   n-turn p y k (new-status {cr}) c i b taken e =
@@ -227,7 +229,7 @@ module _ (protection : ℕ) (log : List ℕ) where
   t-word p y k protect-write = word-short protecting-job p [] 0x88 _ refl
 
   t-turn : (p : Place) (y : Transfer) (k : List ℕ → Script) → Protect p y k → (c i b : ℕ) (taken : List ℕ) → length taken ≡ y .replies
-      → Turns protecting-job [] [] Protect (turnOf protecting-job p (getD taken 0 0)) (wire phase.Disable c i b taken) (programmedAt protecting-job p) (k (reverse taken))
+      → Turns protecting-job [] [] Protect (turnOf protecting-job p (getD taken 0 0)) (wire phase.Disable c i b taken) (countedAt protecting-job p) (k (reverse taken))
   t-turn p y k protect-status c i b taken e = one-reply protecting-job [] Protect p c i b taken k e (λ r. on refl refl protect-config)
   t-turn p y k protect-config c i b taken e = one-reply protecting-job [] Protect p c i b taken k e (λ r. on refl refl protect-enable)
   t-turn p y k protect-enable c i b taken e = one-reply protecting-job [] Protect p c i b taken k e (λ r. on refl refl protect-write)
@@ -250,9 +252,9 @@ module _ (protection : ℕ) (log : List ℕ) where
 -- ---- erase and program: the work, then the status until it is settled
 
 -- `Ready d n x then`: after d bytes programmed the work at hand is the transfer x, of n bytes, and `then` comes once its status is clean
-module _ (work : Stage) (erases pages : Bool) (failure : Status) (bit a : ℕ) (bytes log : List ℕ) (Ready : ℕ → ℕ → Transfer → Script → Type 0) where
+module _ (work : Stage) (erases : Bool) (next : Sequel) (failure : Status) (bit a : ℕ) (bytes log : List ℕ) (Ready : ℕ → ℕ → Transfer → Script → Type 0) where
   abbrev pub work-job : Job
-  work-job = start.workingJob work erases pages failure a (length bytes) (length log)
+  work-job = start.workingJob work erases next failure a (length bytes) (length log)
 
   abbrev pub work-at : Stage → ℕ → ℕ → Place
   work-at s d n = record { stage = s; done = d; chunk = n; sr = 0; cr = 0 }
@@ -271,7 +273,7 @@ module _ (work : Stage) (erases pages : Bool) (failure : Status) (bit a : ℕ) (
   module _ (going : statusOf work ≡ Going) (polls : (d n r : ℕ) → turnAt work work-job (work-at work d n) r ≡ begin (work-at work d n) stage.Poll)
       (same : (d n : ℕ) (x : Transfer) (then : Script) → Ready d n x then → Same (frameAt work work-job n) x)
       (word : (d n : ℕ) (x : Transfer) (then : Script) → Ready d n x then → (i : ℕ) → i < length (words x) → dueWord work-job (work-at work d n) i bytes ≡ getD (words x) i 0)
-      (clean : (d n : ℕ) (x : Transfer) (then : Script) (w : Wire) → Ready d n x then → Turns work-job bytes [] Working (settled work-job (work-at stage.Poll d n)) w (programmedAt work-job (work-at stage.Poll d n)) then)
+      (clean : (d n : ℕ) (x : Transfer) (then : Script) (w : Wire) → Ready d n x then → Turns work-job bytes [] Working (settled work-job (work-at stage.Poll d n)) w (countedAt work-job (work-at stage.Poll d n)) then)
       (unread : isReading work ≡ false) (fails : isGoing failure ≡ false) (error : (st : ℕ) → failed (work-job .script) st ≡ isSet bit st) where
     w-same : (p : Place) (y : Transfer) (k : List ℕ → Script) → Working p y k → Same (frameOf work-job p) y
     w-same p y k (settle-enable q) = same-short 0x80 _
@@ -288,14 +290,14 @@ module _ (work : Stage) (erases pages : Bool) (failure : Status) (bit a : ℕ) (
     w-word p y k settle-disable = word-short work-job p bytes 0x80 _ refl
 
     polled : (d n : ℕ) (x : Transfer) (then : Script) (e b : Bool) (w : Wire) → Ready d n x then
-        → Turns work-job bytes [] Working (pick e (begin (work-at stage.Poll d n) stage.Clear) (pick b (begin (work-at stage.Poll d n) stage.Poll) (settled work-job (work-at stage.Poll d n)))) w (programmedAt work-job (work-at stage.Poll d n))
+        → Turns work-job bytes [] Working (pick e (begin (work-at stage.Poll d n) stage.Clear) (pick b (begin (work-at stage.Poll d n) stage.Poll) (settled work-job (work-at stage.Poll d n)))) w (countedAt work-job (work-at stage.Poll d n))
         (onward (not e && b) (call.settling bit failure then) (onward e (call.failing failure) then))
     polled d n x then true b w q = on refl refl settle-clear
     polled d n x then false true w q = again refl refl (settle-poll q)
     polled d n x then false false w q = clean d n x then w q
 
     w-turn : (p : Place) (y : Transfer) (k : List ℕ → Script) → Working p y k → (c i b : ℕ) (taken : List ℕ) → length taken ≡ y .replies
-        → Turns work-job bytes [] Working (turnOf work-job p (getD taken 0 0)) (wire phase.Disable c i b taken) (programmedAt work-job p) (k (reverse taken))
+        → Turns work-job bytes [] Working (turnOf work-job p (getD taken 0 0)) (wire phase.Disable c i b taken) (countedAt work-job p) (k (reverse taken))
     w-turn p y k (settle-enable q) c i b taken e = one-reply work-job bytes Working p c i b taken k e (λ r. on going refl (settle-work q))
     w-turn p y k (settle-work {d} {n} q) c i b taken e = rw (polls d n (getD taken 0 0)) (again refl refl (settle-poll q))
     w-turn p y k (settle-poll {d} {n} {x} {then} q) c i b taken e =
@@ -319,10 +321,10 @@ data Alone (n₀ : ℕ) (x₀ : Transfer) : ℕ → ℕ → Transfer → Script 
 
 module _ (work : Stage) (erases : Bool) (failure : Status) (bit a : ℕ) (bytes log : List ℕ) (n : ℕ) (x : Transfer) where
   abbrev lone-job : Job
-  lone-job = start.workingJob work erases false failure a (length bytes) (length log)
+  lone-job = start.workingJob work erases Once failure a (length bytes) (length log)
 
   abbrev Lone : Stages
-  Lone = Working work erases false failure bit a bytes log (Alone n x)
+  Lone = Working work erases Once failure bit a bytes log (Alone n x)
 
   module _ (going : statusOf work ≡ Going) (polls : (d m r : ℕ) → turnAt work lone-job (record { stage = work; done = d; chunk = m; sr = 0; cr = 0 }) r ≡ begin (record { stage = work; done = d; chunk = m; sr = 0; cr = 0 }) stage.Poll)
       (same : Same (frameAt work lone-job n) x) (word : (i : ℕ) → i < length (words x) → dueWord lone-job (start.placeAt work n 0 0) i bytes ≡ getD (words x) i 0)
@@ -340,14 +342,22 @@ module _ (work : Stage) (erases : Bool) (failure : Status) (bit a : ℕ) (bytes 
 
     pub working : Starts (start.going lone-job (start.placeAt stage.Enable n 0 0)) bytes log [] (call.working bit failure x (ends Done []))
     working =
-        begins lone-job bytes log Lone (working-scripted work erases false failure bit a bytes log (Alone n x) going polls lone-same lone-word lone-clean unread fails error) _ _ _ (settle-enable alone) refl refl refl refl
+        begins lone-job bytes log Lone (working-scripted work erases Once failure bit a bytes log (Alone n x) going polls lone-same lone-word lone-clean unread fails error) _ _ _ (settle-enable alone) refl refl refl refl
 
 pub erase-sector : (a : ℕ) (log : List ℕ) → Starts (start.eraseSector a (length log)) [] log [] (call.eraseSector a)
-erase-sector a log =
-    either [] log (ltb 16777215 (a + 65536)) (λ e. ended-at-start _ [] log [] OutOfRange refl (λ w. refl) refl refl refl)
-    (λ e. either [] log (eqb (a % 65536) 0)
-    (λ f. working stage.Erase true EraseErrorBitSet 5 a [] log 0 (call.erasing a) refl (λ d m r. refl) (same-short 0x1C _) (word-short (start.erasingJob a (length log)) (start.placeAt stage.Erase 0 0 0) [] 0x1C _ refl) refl refl (λ st. refl))
-    (λ f. ended-at-start _ [] log [] Alignment refl (λ w. refl) refl refl refl))
+erase-sector a log = go (ltb 16777215 (a + 65536)) (eqb (a % 65536) 0)
+  where
+    job : Job
+    job = start.erasingJob a (length log)
+
+    status : Bool → Bool → Status
+    status b c = cond b OutOfRange (cond c Going Alignment)
+
+    go : (b c : Bool) → Starts (start.pick (isGoing (status b c)) (start.going job (start.placeAt stage.Enable 0 0 0)) (start.over job (status b c))) [] log []
+        (onward b (refused OutOfRange) (onward c (call.working 5 EraseErrorBitSet (call.erasing a) (ends Done [])) (refused Alignment)))
+    go true c = ended-at-start job [] log [] OutOfRange refl (λ w. refl) refl refl refl
+    go false true = working stage.Erase true EraseErrorBitSet 5 a [] log 0 (call.erasing a) refl (λ d m r. refl) (same-short 0x1C _) (word-short job (start.placeAt stage.Erase 0 0 0) [] 0x1C _ refl) refl refl (λ st. refl)
+    go false false = ended-at-start job [] log [] Alignment refl (λ w. refl) refl refl refl
 
 -- the words of `program`'s transfer
 program-word : (a n : ℕ) (bytes log : List ℕ) → a + length bytes ≤ 16777215 → length bytes ≤ 240 → length bytes % 4 ≡ 0

@@ -13,10 +13,12 @@ use Rattle.qspi_script.specs.Turns.{turnOf}
 use Rattle.qspi_script.specs.declared.Status.{Status}
 use Rattle.qspi_script.specs.declared.Status.the-variants.{Going}
 use Rattle.qspi_script.specs.Answer.{saidBy}
+use Rattle.qspi_script.specs.declared.Sequel.{Sequel}
+use Rattle.qspi_script.specs.declared.Sequel.the-variants.{Once, Pages, Sectors}
 use Rattle.qspi_script.specs.declared.Job.{Job}
 use Rattle.qspi_script.specs.declared.Place.{Place}
 use Rattle.qspi_operation.specs.Store.{isReading}
-use Rattle.qspi_operation.specs.Step.{isGoing, programmedAt}
+use Rattle.qspi_operation.specs.Step.{isGoing, countedBy, countedAt}
 use Rattle.qspi_operation.proofs.Verdicts.{no}
 use Rattle.qspi_operation.specs.Machine.{Transfer, Script, ends, exchange, State, ended, nothing, want, statusIn, valuesIn, countIn}
 use Rattle.qspi_calls.specs.Calls.{short}
@@ -41,7 +43,7 @@ of-three (q ∷ r ∷ s ∷ t ∷ l) P e h = absurd (omega arith)
 pub same-short : (port word : ℕ) → Same (oneWord port) (short port word)
 same-short port word = record { port = refl; further = refl; bytes = refl; few = omega arith; twice = refl }
 
-pub word-short : (job : Job) (p : Place) (bytes : List ℕ) (port word : ℕ) → firstWord job p ≡ word → (i : ℕ) → i < length (words (short port word)) → dueWord job p i bytes ≡ getD (words (short port word)) i 0
+pub word-short : (job : Job) (p : Place) (bytes : List ℕ) (port word : ℕ) → firstWord job p bytes ≡ word → (i : ℕ) → i < length (words (short port word)) → dueWord job p i bytes ≡ getD (words (short port word)) i 0
 word-short job p bytes port word e zero l = e
 word-short job p bytes port word e (suc i) l = absurd (omega arith)
 
@@ -52,7 +54,7 @@ pub data Only (p₀ : Place) (x₀ : Transfer) (k₀ : List ℕ → Script) : Pl
 
 module _ (job : Job) (p : Place) (buffer : List ℕ) (x : Transfer) (k : List ℕ → Script) (same : Same (frameOf job p) x)
     (word : (i : ℕ) → i < length (words x) → dueWord job p i [] ≡ getD (words x) i 0)
-    (turn : (c i b : ℕ) (taken : List ℕ) → length taken ≡ x .replies → Turns job [] buffer (Only p x k) (turnOf job p (getD taken 0 0)) (wire Disable c i b taken) (programmedAt job p) (k (reverse taken)))
+    (turn : (c i b : ℕ) (taken : List ℕ) → length taken ≡ x .replies → Turns job [] buffer (Only p x k) (turnOf job p (getD taken 0 0)) (wire Disable c i b taken) (countedAt job p) (k (reverse taken)))
     (unread : isReading (p .stage) ≡ false) where
   only-same : (q : Place) (y : Transfer) (z : List ℕ → Script) → Only p x k q y z → Same (frameOf job q) y
   only-same q y z only = same
@@ -61,13 +63,13 @@ module _ (job : Job) (p : Place) (buffer : List ℕ) (x : Transfer) (k : List �
   only-word q y z only = word
 
   only-turn : (q : Place) (y : Transfer) (z : List ℕ → Script) → Only p x k q y z → (c i b : ℕ) (taken : List ℕ) → length taken ≡ y .replies
-      → Turns job [] buffer (Only p x k) (turnOf job q (getD taken 0 0)) (wire Disable c i b taken) (programmedAt job q) (z (reverse taken))
+      → Turns job [] buffer (Only p x k) (turnOf job q (getD taken 0 0)) (wire Disable c i b taken) (countedAt job q) (z (reverse taken))
   only-turn q y z only = turn
 
   only-unread : (q : Place) (y : Transfer) (z : List ℕ → Script) → Only p x k q y z → isReading (q .stage) ≡ false
   only-unread q y z only = unread
 
-  pub one-transfer : (log : List ℕ) → 0 ≡ programmedAt job p → 0 ≡ job .lent .«data» → length log ≡ job .lent .log → length buffer ≡ job .lent .buffer → Starts (start.going job p) [] log buffer (exchange x k)
+  pub one-transfer : (log : List ℕ) → 0 ≡ countedAt job p → 0 ≡ job .lent .«data» → length log ≡ job .lent .log → length buffer ≡ job .lent .buffer → Starts (start.going job p) [] log buffer (exchange x k)
   one-transfer log n d l b = record {
     job = job;
     place = p;
@@ -86,7 +88,7 @@ module _ (job : Job) (p : Place) (buffer : List ℕ) (x : Transfer) (k : List �
 -- ---- a call that has ended at its start
 
 data Over (job : Job) : Place → Wire → Status → State → Type 0 where
-  over-at : {p : Place} {w : Wire} {a : Status} → 0 ≡ p .done → isGoing a ≡ false → saidBy a (given job w) ≡ saidBy a [] → Over job p w a (ended a [] [] 0)
+  over-at : {p : Place} {w : Wire} {a : Status} {vs : List ℕ} → 0 ≡ p .done → isGoing a ≡ false → saidBy a (given job w) ≡ saidBy a vs → Over job p w a (ended a vs [] 0)
 
 over-tie : (job : Job) (bytes buffer : List ℕ) → Tie job bytes buffer (Over job)
 over-tie job bytes buffer = record {
@@ -95,7 +97,7 @@ over-tie job bytes buffer = record {
   steps = λ p w s v q. absurd (not-going q);
   over = λ p w a s q g. ended-over q;
   values = λ p w a s q g. nothing-given q;
-  counts = λ p w a s q. nothing-programmed (job .script .paging) q;
+  counts = λ p w a s q. nothing-counted (job .script .sequel) q;
   keeps = λ p w s v q. absurd (not-going q);
 }
   where
@@ -105,16 +107,18 @@ over-tie job bytes buffer = record {
     ended-over : {p : Place} {w : Wire} {a : Status} {s : State} → Over job p w a s → (want s ≡ nothing) × (a ≡ statusIn s)
     ended-over (over-at e g f) = (refl, refl)
 
-    nothing-programmed : (b : Bool) {p : Place} {w : Wire} {a : Status} {s : State} → Over job p w a s → countIn s ≡ cond b (p .done) 0
-    nothing-programmed true (over-at e g f) = e
-    nothing-programmed false (over-at e g f) = refl
+    nothing-counted : (q : Sequel) {p : Place} {w : Wire} {a : Status} {s : State} → Over job p w a s → countIn s ≡ countedBy q (p .done)
+    nothing-counted Once (over-at e g f) = refl
+    nothing-counted Pages (over-at e g f) = e
+    nothing-counted Sectors (over-at e g f) = e
 
     nothing-given : {p : Place} {w : Wire} {a : Status} {s : State} → Over job p w a s → saidBy a (given job w) ≡ saidBy a (valuesIn s)
     nothing-given (over-at e g f) = f
 
-pub ended-at-start : (job : Job) (bytes log buffer : List ℕ) (a : Status) → isGoing a ≡ false → ((w : Wire) → saidBy a (given job w) ≡ saidBy a []) → length bytes ≡ job .lent .«data» → length log ≡ job .lent .log
-    → length buffer ≡ job .lent .buffer → Starts (start.over job a) bytes log buffer (ends a [])
-ended-at-start job bytes log buffer a g f d l b = record {
+-- with these values
+pub ended-with : (vs : List ℕ) (job : Job) (bytes log buffer : List ℕ) (a : Status) → isGoing a ≡ false → ((w : Wire) → saidBy a (given job w) ≡ saidBy a vs) → length bytes ≡ job .lent .«data» → length log ≡ job .lent .log
+    → length buffer ≡ job .lent .buffer → Starts (start.over job a) bytes log buffer (ends a vs)
+ended-with vs job bytes log buffer a g f d l b = record {
   job = job;
   place = _;
   wire = _;
@@ -128,3 +132,7 @@ ended-at-start job bytes log buffer a g f d l b = record {
   lent-buffer = b;
   unread = refl;
 }
+
+pub ended-at-start : (job : Job) (bytes log buffer : List ℕ) (a : Status) → isGoing a ≡ false → ((w : Wire) → saidBy a (given job w) ≡ saidBy a []) → length bytes ≡ job .lent .«data» → length log ≡ job .lent .log
+    → length buffer ≡ job .lent .buffer → Starts (start.over job a) bytes log buffer (ends a [])
+ended-at-start = ended-with []

@@ -31,7 +31,7 @@ use Rattle.qspi_operation.specs.declared.Reply.the-variants.{Word, Nothing}
 use Rattle.qspi_operation.specs.declared.Verdict.{Verdict}
 use Rattle.qspi_operation.specs.declared.Verdict.the-variants.{Full}
 use Rattle.qspi_operation.specs.Store.{stored}
-use Rattle.qspi_operation.specs.Step.{isGoing, accessOf, shown, answered, choose, sameLengths, verdictOf, act, moved, movedBy, noted, taken, written, stepOf, logOf, bufferOf, programmedAt}
+use Rattle.qspi_operation.specs.Step.{isGoing, accessOf, shown, answered, choose, sameLengths, verdictOf, act, moved, movedBy, noted, taken, written, stepOf, logOf, bufferOf, countedAt}
 use Rattle.qspi_operation.specs.Machine.{Want, reads, writes, nothing, State, going, ended, want, next, statusIn, valuesIn, bytesIn, countIn, begin, Script, overlaid, readsOf}
 use Rattle.qspi_operation.specs.Points.{Lending, Point, reached, outset, roomFor, stepAt, accessIf, stepsAt}
 use Rattle.qspi_operation.specs.Follows.{askedFor, lengthsOf, Shows, opAfter, Follows, Begun}
@@ -60,7 +60,7 @@ pub record Tie (job : Job) (bytes buffer₀ : List ℕ) (Rel : Place → Wire �
   pub steps : (p : Place) (w : Wire) (s : State) (v : ℕ) → Rel p w Going s → Rel (after job p w v .place) (after job p w v .wire) (after job p w v .status) (next s v)
   pub over : (p : Place) (w : Wire) (a : Status) (s : State) → Rel p w a s → isGoing a ≡ false → (want s ≡ nothing) × (a ≡ statusIn s)
   pub values : (p : Place) (w : Wire) (a : Status) (s : State) → Rel p w a s → isGoing a ≡ false → saidBy a (given job w) ≡ saidBy a (valuesIn s)
-  pub counts : (p : Place) (w : Wire) (a : Status) (s : State) → Rel p w a s → countIn s ≡ programmedAt job p
+  pub counts : (p : Place) (w : Wire) (a : Status) (s : State) → Rel p w a s → countIn s ≡ countedAt job p
   pub keeps : (p : Place) (w : Wire) (s : State) (v : ℕ) → Rel p w Going s → stored job p w v (overlaid (bytesIn s) buffer₀) ≡ overlaid (bytesIn (next s v)) buffer₀
 
 long-last : (l : List Access) (a : Access) → 2 * length (l ++ a ∷ []) ≡ 2 * length l + 2
@@ -79,7 +79,7 @@ module _ (job : Job) (g : Lending) (lent : job .lent ≡ lengthsOf g) (fits : g 
   -- an operation and the call that it follows: tied while they go on
   data Inv : Point → Op → Type 0 where
     goes : {p : Place} {w : Wire} {s : State} {l : List Access} → Rel p w Going s → 2 * length l ≤ g .room → Wide s → Inv (at s l Going) (op p w (2 * length l) (readsOf l) Going)
-    over : {p : Place} {w : Wire} {s : State} {l : List Access} {a : Status} → isGoing a ≡ false → saidBy a (given job w) ≡ saidBy a (valuesIn s) → countIn s ≡ programmedAt job p → Wide s → Inv (at s l a) (op p w (2 * length l) (readsOf l) a)
+    over : {p : Place} {w : Wire} {s : State} {l : List Access} {a : Status} → isGoing a ≡ false → saidBy a (given job w) ≡ saidBy a (valuesIn s) → countIn s ≡ countedAt job p → Wide s → Inv (at s l a) (op p w (2 * length l) (readsOf l) a)
 
   is-going : (s : State) → (want s ≡ nothing → ⊥) → statusIn s ≡ Going
   is-going (going m a l taken brings k bs n) h = refl

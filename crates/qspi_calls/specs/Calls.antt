@@ -1,5 +1,5 @@
 -- The calls of document 01 over lists: "One transfer, access by access", the refusals of "What the input can bring on" in their order, and
--- "What changes shape". Each is a script of specs/Machine of qspi_operation.
+-- "What changes shape"; and of document 02 the list of sectors (U1). Each is a script of specs/Machine of qspi_operation.
 use Prim.Native.Nat.{ℕ, zero, suc, _+_, _-_, _/_, _%_, min}
 use mathlib.Core.Bool.{Bool, true, false, not, _&&_, _||_}
 use mathlib.Core.List.{List, [], _∷_, _++_, map}
@@ -13,17 +13,18 @@ use Rattle.zynq7000_hal.specs.Initialize.{initialConfig, loopbackWords}
 use Rattle.zynq7000_hal.specs.Presets.{ioModeConfig}
 use Rattle.zynq7000_hal.specs.declared.qspi.ClockConfig.{ClockConfig}
 use Rattle.zedboard_bsp.specs.DeviceId.{replyBytes, longReplyBytes}
-use Rattle.zedboard_bsp.specs.Limits.{lastEnd, sectorSize, maxDataBytesPerWrite, pageSize, largestChunk, addressSpan}
+use Rattle.zedboard_bsp.specs.Limits.{lastEnd, sectorSize, longestList, maxDataBytesPerWrite, pageSize, largestChunk, addressSpan}
 use Rattle.zedboard_bsp.specs.Registers.{protected, configuredCr, configuredSr, updateNeeded}
 use Rattle.zedboard_bsp.specs.Words.{wordOf, bytesOf, topByte, commandOnly, commandWord, writeStatusWord, writeRegistersWord}
 use Rattle.zedboard_bsp.specs.declared.qspi_spansion.RegisterId.the-variants as command
 use Rattle.qspi_transfer.specs.LowLevel.{automatic, manual, chipSelectHigh}
 use Rattle.qspi_script.specs.declared.Status.{Status}
-use Rattle.qspi_script.specs.declared.Status.the-variants.{Done, OutOfRange, Alignment, DataTooLarge, NotAligned, CrossesPageBoundary, AddressSpan, FieldTooWide, EraseErrorBitSet, ProgrammingErrorBitSet}
+use Rattle.qspi_script.specs.declared.Status.the-variants.{Done, OutOfRange, Alignment, DataTooLarge, NotAligned, CrossesPageBoundary, AddressSpan, FieldTooWide, EraseErrorBitSet, ProgrammingErrorBitSet, RepeatedSector, ListTooLong}
 use Rattle.qspi_calls.specs.declared.start.Config.{Config}
 use Rattle.qspi_calls.specs.declared.start.Latency.{Latency}
 use Rattle.qspi_calls.specs.declared.start.Latency.the-variants.{AsRead, Code}
 use Rattle.qspi_calls.specs.Chunks.{Chunk, chunks}
+use Rattle.qspi_calls.specs.Sectors.{sectorStatus, firstRefused, firstRepeat}
 use Rattle.qspi_operation.specs.Machine.{write, modify, drain, Transfer, opening, Script, ends, perform, repeats, counts, none, exchange, onward}
 
 -- ---- transfers
@@ -192,6 +193,23 @@ abbrev pub eraseSector : ℕ → Script
 eraseSector a =
     onward (ltb lastEnd (a + sectorSize)) (refused OutOfRange)
     (onward (eqb (a % sectorSize) 0) (working 5 EraseErrorBitSet (erasing a) (ends Done [])) (refused Alignment))
+
+-- U1: the erases in list order, each counted once its status is clean
+abbrev pub sectors : List ℕ → Script
+sectors [] = ends Done []
+sectors (a ∷ l) = working 5 EraseErrorBitSet (erasing a) (counts 1 (sectors l))
+
+-- a refusal for an entry of a list, "with the first place"
+abbrev pub refusedAt : Status → ℕ → Script
+refusedAt a at = ends a (at ∷ [])
+
+-- "1 and 2 as for one sector, with the first place, from 0, that meets either; new 32 RepeatedSector (with the first that repeats an earlier one) after both; new 33 ListTooLong, tested first"
+abbrev pub eraseSectors : List ℕ → Script
+eraseSectors l =
+    onward (ltb longestList (length l)) (refused ListTooLong)
+    (onward (ltb (firstRefused l) (length l)) (refusedAt (sectorStatus (getD l (firstRefused l) 0)) (firstRefused l))
+    (onward (ltb (firstRepeat [] l) (length l)) (refusedAt RepeatedSector (firstRepeat [] l))
+    (sectors l)))
 
 -- rules 1, 3, 4, 5, and what comes once the bytes are programmed
 abbrev pub programThen : ℕ → List ℕ → Script → Script

@@ -6,3 +6,4 @@ pub mod Begins
 pub mod Prompt
 pub mod Promise
 pub mod Settled
+pub mod Sectors

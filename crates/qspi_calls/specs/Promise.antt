@@ -13,7 +13,7 @@ use Rattle.qspi_operation.specs.declared.Stepped.{Stepped}
 use Rattle.qspi_operation.specs.Machine.{Script, Result, called, bytesIn, overlaid, readsOf}
 use Rattle.qspi_operation.specs.Points.{answeredOf}
 use Rattle.qspi_operation.specs.Follows.{answerBy}
-use Rattle.qspi_calls.specs.Values.{isDone}
+use Rattle.qspi_calls.specs.Values.{hasValues}
 use Rattle.qspi_calls.specs.declared.run.Ran.{Ran}
 
 -- a call that lends no data, or no buffer
@@ -42,13 +42,13 @@ pub record Called (c : Script) (log buffer replies : List ℕ) (s : Stepped) (bu
   pub logged : log₁ ≡ loggedOf (called c (length log / 2) replies) log
   pub stored : buffer₁ ≡ bufferedOf (called c (length log / 2) replies) buffer
 
--- a reply where the call is done, else 0
+-- a reply where the answer has values, else 0
 abbrev pub keptOf : Status → ℕ → ℕ
-keptOf a reply = cond (isDone a) reply 0
+keptOf a reply = cond (hasValues a) reply 0
 
--- what a call gives where it is done, else nothing
+-- what a call gives where its answer has values, else nothing
 abbrev pub givenOf : Status → Gives → Gives
-givenOf a given = cond (isDone a) given gives.Nothing
+givenOf a given = cond (hasValues a) given gives.Nothing
 
 -- the value of an answer that has one, and 0 of any other
 abbrev pub oneOf : List ℕ → ℕ

@@ -3,7 +3,9 @@
 -- says what each call does from there.
 use Prim.Native.Nat.{ℕ, _+_, _%_}
 use mathlib.Core.Bool.{Bool, true, false}
+use mathlib.Core.List.{List, []}
 use lib.Dec.{ltb, eqb}
+use lib.ListN.{length, getD}
 use Rattle.zynq7000.specs.Qspi.{linearWord, configWord}
 use Rattle.zynq7000.specs.Slcr.{sourceCode, clockControlWord}
 use Rattle.zynq7000_hal.specs.Clocks.{baudOf}
@@ -12,12 +14,12 @@ use Rattle.zynq7000_hal.specs.Presets.{ioModeConfig}
 use Rattle.zynq7000_hal.specs.declared.qspi.BaudRateConfig.{BaudRateConfig}
 use Rattle.zynq7000_hal.specs.declared.qspi.BaudRateConfig.the-variants.{WithLoopback, WithoutLoopback}
 use Rattle.zynq7000_hal.specs.declared.qspi.ClockConfig.{ClockConfig}
-use Rattle.zedboard_bsp.specs.Limits.{lastEnd, sectorSize, maxDataBytesPerWrite, pageSize, addressSpan}
+use Rattle.zedboard_bsp.specs.Limits.{lastEnd, longestList, maxDataBytesPerWrite, pageSize, addressSpan}
 use Rattle.qspi_transfer.specs.Wire.{freshWire}
 use Rattle.qspi_transfer.specs.declared.Phase.the-variants as phase
 use Rattle.qspi_transfer.specs.declared.low_level.Sequence.{Sequence}
 use Rattle.qspi_transfer.specs.declared.low_level.Sequence.the-variants as sequence
-use Rattle.qspi_script.specs.Turns.{nextChunk, nextPage}
+use Rattle.qspi_script.specs.Turns.{nextChunk, nextPage, nextSector}
 use Rattle.qspi_script.specs.declared.Stage.{Stage}
 use Rattle.qspi_script.specs.declared.Stage.the-variants as stage
 use Rattle.qspi_script.specs.declared.Status.{Status}
@@ -26,6 +28,8 @@ use Rattle.qspi_script.specs.declared.Purpose.{Purpose}
 use Rattle.qspi_script.specs.declared.Purpose.the-variants as purpose
 use Rattle.qspi_script.specs.declared.Gives.{Gives}
 use Rattle.qspi_script.specs.declared.Gives.the-variants as gives
+use Rattle.qspi_script.specs.declared.Sequel.{Sequel}
+use Rattle.qspi_script.specs.declared.Sequel.the-variants as sequel
 use Rattle.qspi_script.specs.declared.Script.{Script}
 use Rattle.qspi_script.specs.declared.Lent.{Lent}
 use Rattle.qspi_script.specs.declared.Wanted.{Wanted}
@@ -35,18 +39,20 @@ use Rattle.qspi_script.specs.declared.Job.{Job}
 use Rattle.qspi_script.specs.declared.Place.{Place}
 use Rattle.qspi_script.specs.declared.Turned.{Turned}
 use Rattle.qspi_operation.specs.declared.Op.{Op}
+use Rattle.qspi_operation.specs.Step.{isGoing}
+use Rattle.qspi_calls.specs.Sectors.{sectorStatus, firstRefused, firstRepeat}
 use Rattle.qspi_calls.specs.declared.start.Config.{Config}
 use Rattle.qspi_calls.specs.declared.start.Latency.{Latency}
 use Rattle.qspi_calls.specs.declared.start.Latency.the-variants.{AsRead, Code}
 
 -- ---- a call as it was asked for
 
-abbrev pub then : Stage → Stage → Status → Bool → Bool → Purpose → Gives → Script
-then enable clear disable erases pages for given =
-    record { «after_enable» = enable; «after_clear» = clear; «after_disable» = disable; erasing = erases; paging = pages; purpose = for; gives = given }
+abbrev pub then : Stage → Stage → Status → Bool → Sequel → Purpose → Gives → Script
+then enable clear disable erases next for given =
+    record { «after_enable» = enable; «after_clear» = clear; «after_disable» = disable; erasing = erases; sequel = next; purpose = for; gives = given }
 
 abbrev pub plain : Gives → Script
-plain given = then stage.End stage.End status.Done false false purpose.Answer given
+plain given = then stage.End stage.End status.Done false sequel.Once purpose.Answer given
 
 abbrev pub notReading : Reading
 notReading = record { fast = false; dummy = false }
@@ -68,10 +74,13 @@ commandJob s log = jobOf (lent 0 0 log) s 0
 
 abbrev pub updatingJob : Stage → Purpose → Wanted → ℕ → Job
 updatingJob cleared for w log =
-    record { lent = lent 0 0 log; script = then stage.WriteRegisters cleared status.Done false false for gives.Nothing; addr = 0; reading = notReading; wanted = w; «low_level» = noRegisters }
+    record { lent = lent 0 0 log; script = then stage.WriteRegisters cleared status.Done false sequel.Once for gives.Nothing; addr = 0; reading = notReading; wanted = w; «low_level» = noRegisters }
 
-abbrev pub workingJob : Stage → Bool → Bool → Status → ℕ → ℕ → ℕ → Job
-workingJob work erases pages failure a n log = jobOf (lent n 0 log) (then work stage.Disable failure erases pages purpose.Answer gives.Nothing) a
+abbrev pub works : Stage → Bool → Sequel → Status → Gives → Script
+works work isErase next failure given = then work stage.Disable failure isErase next purpose.Answer given
+
+abbrev pub workingJob : Stage → Bool → Sequel → Status → ℕ → ℕ → ℕ → Job
+workingJob work isErase next failure a n log = jobOf (lent n 0 log) (works work isErase next failure gives.Nothing) a
 
 abbrev pub readingJob : ℕ → Bool → Bool → ℕ → ℕ → Job
 readingJob a fast dummy n log =
@@ -100,7 +109,7 @@ abbrev pub oneTransfer : Stage → Gives → ℕ → Op
 oneTransfer s given log = going (commandJob (plain given) log) (placeAt s 0 0 0)
 
 abbrev pub enabled : Stage → Script
-enabled s = then s stage.End status.Done false false purpose.Answer gives.Nothing
+enabled s = then s stage.End status.Done false sequel.Once purpose.Answer gives.Nothing
 
 abbrev pub enabledThen : Stage → ℕ → ℕ → ℕ → Op
 enabledThen s sr cr log = going (commandJob (enabled s) log) (placeAt stage.Enable 0 sr cr)
@@ -135,20 +144,22 @@ abbrev pub setWriteProtection : ℕ → ℕ → Op
 setWriteProtection p log =
     pick (ltb 7 p) (over (protectingJob p log) status.FieldTooWide) (going (protectingJob p log) (placeAt stage.ReadStatus 0 0 0))
 
+-- a script of sector erases: one of them, or those of a list
+abbrev pub erases : Sequel → Gives → Script
+erases next given = works stage.Erase true next status.EraseErrorBitSet given
+
 abbrev pub erasingJob : ℕ → ℕ → Job
-erasingJob a log = workingJob stage.Erase true false status.EraseErrorBitSet a 0 log
+erasingJob a log = jobOf (lent 0 0 log) (erases sequel.Once gives.Nothing) a
 
 abbrev pub eraseSector : ℕ → ℕ → Op
-eraseSector a log =
-    pick (ltb lastEnd (a + sectorSize)) (over (erasingJob a log) status.OutOfRange)
-    (pick (eqb (a % sectorSize) 0) (going (erasingJob a log) (placeAt stage.Enable 0 0 0)) (over (erasingJob a log) status.Alignment))
+eraseSector a log = pick (isGoing (sectorStatus a)) (going (erasingJob a log) (placeAt stage.Enable 0 0 0)) (over (erasingJob a log) (sectorStatus a))
 
 -- a job of page programs: one of them, or the chunks of `write_pages`
-abbrev pub programsJob : Bool → ℕ → ℕ → ℕ → Job
-programsJob pages a n log = workingJob stage.Program false pages status.ProgrammingErrorBitSet a n log
+abbrev pub programsJob : Sequel → ℕ → ℕ → ℕ → Job
+programsJob next a n log = workingJob stage.Program false next status.ProgrammingErrorBitSet a n log
 
 abbrev pub programmingJob : ℕ → ℕ → ℕ → Job
-programmingJob a n log = programsJob false a n log
+programmingJob a n log = programsJob sequel.Once a n log
 
 abbrev pub programOf : ℕ → ℕ → ℕ → Op
 programOf a n log =
@@ -163,12 +174,24 @@ abbrev pub opened : Job → Turned → Op
 opened job t = record { job = job; place = t .place; wire = freshWire phase.DrainStatus; used = 0; replies = 0; status = t .status }
 
 abbrev pub pagingJob : ℕ → ℕ → ℕ → Job
-pagingJob a n log = programsJob true a n log
+pagingJob a n log = programsJob sequel.Pages a n log
 
 -- "`write_pages` gives 1 on the whole length first, then cuts into 128 bytes and calls program"
 abbrev pub writePagesOf : ℕ → ℕ → ℕ → Op
 writePagesOf a n log =
     pick (ltb lastEnd (a + n)) (over (pagingJob a n log) status.OutOfRange) (opened (pagingJob a n log) (nextPage (pagingJob a n log) (placeAt stage.Enable 0 0 0)))
+
+-- a list of so many sectors, with what its answer gives
+abbrev pub listJob : Gives → ℕ → ℕ → Job
+listJob given n log = jobOf (lent n 0 log) (erases sequel.Sectors given) 0
+
+-- 33; the first place that meets 1 or 2; the first that repeats an earlier one; else the first sector
+abbrev pub eraseSectorsOf : List ℕ → ℕ → Op
+eraseSectorsOf l log =
+    pick (ltb longestList (length l)) (over (listJob gives.Nothing (length l) log) status.ListTooLong)
+    (pick (ltb (firstRefused l) (length l)) (over (listJob (gives.Place (firstRefused l)) (length l) log) (sectorStatus (getD l (firstRefused l) 0)))
+    (pick (ltb (firstRepeat [] l) (length l)) (over (listJob (gives.Place (firstRepeat [] l)) (length l) log) status.RepeatedSector)
+    (opened (listJob gives.Nothing (length l) log) (nextSector (listJob gives.Nothing (length l) log) (placeAt stage.Enable 0 0 0)))))
 
 abbrev pub readOf : ℕ → Bool → Bool → ℕ → ℕ → Op
 readOf a fast dummy n log =

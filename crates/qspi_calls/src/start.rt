@@ -5,10 +5,11 @@ ghost use mathlib.Core.Path.{_≡_};
 ghost use mathlib.Core.Bool.{true, false};
 ghost use Rattle.qspi_calls.specs.Starts as spec;
 ghost use Rattle.qspi_calls.specs.Calls as call;
-ghost use Rattle.qspi_calls.specs.Begins.{Begins, BeginsWith, BeginsInto};
+ghost use Rattle.qspi_calls.specs.Begins.{Begins, BeginsWith, BeginsInto, BeginsList};
 ghost use Rattle.qspi_transfer.specs.declared.low_level.Sequence.the-variants as sequence;
 ghost use Rattle.qspi_script.specs.declared.Stage.the-variants as stage;
 ghost use Rattle.qspi_script.specs.declared.Gives.the-variants as gives;
+use crate::sectors;
 use qspi_operation::Op;
 use qspi_script::Gives;
 use qspi_script::Job;
@@ -18,13 +19,13 @@ use qspi_script::Place;
 use qspi_script::Purpose;
 use qspi_script::Reading;
 use qspi_script::Script;
+use qspi_script::Sequel;
 use qspi_script::Stage;
 use qspi_script::Status;
 use qspi_script::Turned;
 use qspi_script::Wanted;
 use qspi_transfer::Phase;
 use qspi_transfer::low_level::Sequence;
-use zedboard_bsp::qspi_spansion::SECTOR_SIZE;
 use zedboard_bsp::qspi_spansion::limits;
 use zynq7000_hal::qspi::BaudRateConfig;
 use zynq7000_hal::qspi::ClockConfig;
@@ -70,7 +71,7 @@ fn plain(gives: Gives) -> Script
         after_clear: Stage::End,
         after_disable: Status::Done,
         erasing: false,
-        paging: false,
+        sequel: Sequel::Once,
         purpose: Purpose::Answer,
         gives,
     }
@@ -201,7 +202,7 @@ fn enabled(stage: Stage) -> Script
         after_clear: Stage::End,
         after_disable: Status::Done,
         erasing: false,
-        paging: false,
+        sequel: Sequel::Once,
         purpose: Purpose::Answer,
         gives: Gives::Nothing,
     }
@@ -241,7 +242,7 @@ fn updating(after_clear: Stage, purpose: Purpose, wanted: Wanted, log: usize) ->
         after_clear,
         after_disable: Status::Done,
         erasing: false,
-        paging: false,
+        sequel: Sequel::Once,
         purpose,
         gives: Gives::Nothing,
     };
@@ -326,31 +327,28 @@ pub fn set_write_protection(protection: u8, log: usize) -> Op
     }
 }
 
-// Write enable, the work, the status until it is clean; on error clear status and write disable.
-fn working(
-    stage: Stage,
-    erasing: bool,
-    paging: bool,
-    failure: Status,
-    addr: u32,
-    data: usize,
-    log: usize,
-) -> Job
-    ensures job { λ r. ⌜ r ≡ spec.workingJob stage erasing paging failure addr «data» log ⌝ }
+// A script of write enable, the work, and its status until it is settled.
+fn works(stage: Stage, erasing: bool, sequel: Sequel, failure: Status, gives: Gives) -> Script
+    ensures script { λ r. ⌜ r ≡ spec.works stage erasing sequel failure gives ⌝ }
+{
+    Script {
+        after_enable: stage,
+        after_clear: Stage::Disable,
+        after_disable: failure,
+        erasing,
+        sequel,
+        purpose: Purpose::Answer,
+        gives,
+    }
+}
+
+fn working(script: Script, addr: u32, data: usize, log: usize) -> Job
+    ensures job { λ r. ⌜ r ≡ spec.jobOf (spec.lent «data» 0 log) script addr ⌝ }
 {
     let lent = Lent {
         data,
         buffer: 0,
         log,
-    };
-    let script = Script {
-        after_enable: stage,
-        after_clear: Stage::Disable,
-        after_disable: failure,
-        erasing,
-        paging,
-        purpose: Purpose::Answer,
-        gives: Gives::Nothing,
     };
     Job {
         lent,
@@ -362,49 +360,82 @@ fn working(
     }
 }
 
+// Sector erases: one of them, or those of a list.
+fn erasing(sequel: Sequel, gives: Gives) -> Script
+    ensures script { λ r. ⌜ r ≡ spec.erases sequel gives ⌝ }
+{
+    works(Stage::Erase, true, sequel, Status::EraseErrorBitSet, gives)
+}
+
 pub fn erase_sector(addr: u32, log: usize) -> Op
     ensures start { λ r. ⌜ r ≡ spec.eraseSector addr log ⌝ }
     ensures begins { λ r. ⌜ Begins log (call.eraseSector addr) r ⌝ }
 {
-    let job = working(
-        Stage::Erase,
-        true,
-        false,
-        Status::EraseErrorBitSet,
-        addr,
-        0,
-        log,
-    );
-    if limits::out_of_range(addr, SECTOR_SIZE) {
-        return over(job, Status::OutOfRange);
-    }
-    if limits::starts_sector(addr) {
+    let job = working(erasing(Sequel::Once, Gives::Nothing), addr, 0, log);
+    let status = sectors::sector_status(addr);
+    if qspi_operation::is_going(status) {
         going(job, place(Stage::Enable, 0, 0, 0))
     } else {
-        over(job, Status::Alignment)
+        over(job, status)
     }
 }
 
-// Page programs: one of them, or the chunks of `write_pages`.
-fn programming(paging: bool, addr: u32, data: usize, log: usize) -> Job
-    ensures job { λ r. ⌜ r ≡ spec.programsJob paging addr «data» log ⌝ }
+// A list of so many sectors.
+fn listing(gives: Gives, count: usize, log: usize) -> Job
+    ensures job { λ r. ⌜ r ≡ spec.listJob gives count log ⌝ }
 {
-    working(
+    working(erasing(Sequel::Sectors, gives), 0, count, log)
+}
+
+// 33, then 1 and 2 at the first place that meets either, then 32: on all entries, before any access. Its
+// steps are lent the list as data, as `sectors::numbered` has it, a byte an entry. What a driver is lent
+// can change between two steps: qspi_driver keeps a copy, and its steps are lent that one.
+pub fn erase_sectors(list: &[u32], log: usize) -> Op
+    ensures start { λ r. ⌜ r ≡ spec.eraseSectorsOf (now (list .entry)) log ⌝ }
+    ensures begins { λ r. ⌜ BeginsList (now (list .entry)) log r ⌝ }
+{
+    let count = list.len();
+    if limits::list_too_long(count) {
+        return over(listing(Gives::Nothing, count, log), Status::ListTooLong);
+    }
+    let bad = sectors::first_refused(list);
+    if bad < count {
+        let status = sectors::sector_status(list[bad]);
+        return over(listing(Gives::Place(bad as u8), count, log), status);
+    }
+    let again = sectors::first_repeat(list);
+    if again < count {
+        return over(
+            listing(Gives::Place(again as u8), count, log),
+            Status::RepeatedSector,
+        );
+    }
+    let job = listing(Gives::Nothing, count, log);
+    opened(
+        job,
+        qspi_script::next_sector(job, place(Stage::Enable, 0, 0, 0)),
+    )
+}
+
+// Page programs: one of them, or the chunks of `write_pages`.
+fn programming(sequel: Sequel, addr: u32, data: usize, log: usize) -> Job
+    ensures job { λ r. ⌜ r ≡ spec.programsJob sequel addr «data» log ⌝ }
+{
+    let script = works(
         Stage::Program,
         false,
-        paging,
+        sequel,
         Status::ProgrammingErrorBitSet,
-        addr,
-        data,
-        log,
-    )
+        Gives::Nothing,
+    );
+    working(script, addr, data, log)
 }
 
 pub fn program(addr: u32, data: usize, log: usize) -> Op
     ensures start { λ r. ⌜ r ≡ spec.programOf addr «data» log ⌝ }
     ensures begins { λ r. ⌜ BeginsWith «data» log (call.program addr) r ⌝ }
 {
-    let job = programming(false, addr, data, log);
+    let job = programming(Sequel::Once, addr, data, log);
     if limits::out_of_range(addr, data) {
         return over(job, Status::OutOfRange);
     }
@@ -442,7 +473,7 @@ pub fn write_pages(addr: u32, data: usize, log: usize) -> Op
     ensures start { λ r. ⌜ r ≡ spec.writePagesOf addr «data» log ⌝ }
     ensures begins { λ r. ⌜ BeginsWith «data» log (call.writePages addr) r ⌝ }
 {
-    let job = programming(true, addr, data, log);
+    let job = programming(Sequel::Pages, addr, data, log);
     if limits::out_of_range(addr, data) {
         return over(job, Status::OutOfRange);
     }

@@ -4,7 +4,7 @@ use mathlib.Core.Path.{_≡_}
 use mathlib.Core.List.{List}
 use lib.ListN.{length}
 use Rattle.qspi_script.specs.declared.Status.{Status}
-use Rattle.qspi_operation.specs.Step.{programmedOf}
+use Rattle.qspi_operation.specs.Step.{countedOf}
 use Rattle.qspi_operation.specs.Machine.{called}
 use Rattle.qspi_calls.specs.Calls.{writePages}
 use Rattle.qspi_operation.specs.Points.{answeredOf}
@@ -17,7 +17,7 @@ use Rattle.qspi_driver.specs.Driver.{Driver}
 
 -- how the call ended, with the used counts and the bytes programmed of the operation that the driver then holds
 abbrev pub handedBack : Status → Driven → PagesRan
-handedBack a r = record { ran = handed (record { op = r .driver .state .op; answer = a }); programmed = programmedOf (r .driver .state .op) }
+handedBack a r = record { ran = handed (record { op = r .driver .state .op; answer = a }); programmed = countedOf (r .driver .state .op) }
 
 -- answer and used counts, bytes programmed and log are those of the run over lists, and the power-cut statement holds of them
 pub record Saves (a : ℕ) (bs replies log : List ℕ) (r : Driven) (log₁ : List ℕ) : Type 0 where

@@ -10,7 +10,7 @@ use Rattle.qspi_script.specs.declared.Number.the-variants.{Without}
 use Rattle.qspi_operation.specs.declared.Op.{Op}
 use Rattle.qspi_operation.specs.declared.Reply.{Reply}
 use Rattle.qspi_operation.specs.declared.Stepped.{Stepped}
-use Rattle.qspi_operation.specs.Step.{isGoing, stepOf, programmedOf}
+use Rattle.qspi_operation.specs.Step.{isGoing, stepOf, countedOf}
 use Rattle.qspi_calls.specs.Promise.{keptOf, givenOf}
 use Rattle.qspi_driver.specs.declared.state.State.{State}
 use Rattle.qspi_driver.specs.declared.state.Answer.{Answer}
@@ -48,7 +48,7 @@ progressOf o = record {
   status = o .status;
   used = o .used;
   replies = o .replies;
-  programmed = programmedOf o;
+  programmed = countedOf o;
   gives = givenOf (o .status) (o .job .script .gives);
   clock = keptOf (o .status) (o .job .«low_level» .clock);
   older = keptOf (o .status) (o .wire .older);

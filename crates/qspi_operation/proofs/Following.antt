@@ -116,7 +116,7 @@ module _ (g : Lending) {p : Point} {o : Op} (f : Follows g p o) where
   changed-now e =
       let u = ap (λ (a : Answered). a .used) (shows .answer) in
       let i = ap (λ (a : Answered). a .replies) (shows .answer) in
-      let n = ap (λ (a : Answered). a .programmed) (shows .answer) in
+      let n = ap (λ (a : Answered). a .counted) (shows .answer) in
       ap answerBy e ∙ rw (u, i, n)
 
   -- and that of a step

@@ -280,7 +280,7 @@ module _ (c : Script) (g : Lending) {o₀ : Op} (h : Begun g c o₀) (log₀ : L
               (l, (s, z .answer ∙ rw (l, s, a)));
           goes = λ e.
               let f = sym (ap isGoing (z .status)) ∙ e in
-              (some g (k .follows) f, z .answer ∙ ap (λ (a : Status). record { says = saidBy a (valuesIn (p .state)); used = 2 * length (p .made); replies = readsOf (p .made); programmed = countIn (p .state) }) (going-is (p .answer) f));
+              (some g (k .follows) f, z .answer ∙ ap (λ (a : Status). record { says = saidBy a (valuesIn (p .state)); used = 2 * length (p .made); replies = readsOf (p .made); counted = countIn (p .state) }) (going-is (p .answer) f));
         }
 
   kept-along : {o : Op} {buffer log : List ℕ} → History g o₀ (g .buffer) log₀ o buffer log → Kept o buffer log

@@ -51,6 +51,8 @@ going-is status.ProgrammingErrorBitSet g = no g
 going-is status.RepliesEnded g = no g
 going-is status.LogFull g = no g
 going-is status.LentLengthChanged g = no g
+going-is status.RepeatedSector g = no g
+going-is status.ListTooLong g = no g
 
 -- ---- one pass
 

@@ -16,7 +16,7 @@ use Rattle.qspi_operation.specs.declared.Asked.the-variants as asked
 use Rattle.qspi_operation.specs.declared.Stepped.{Stepped}
 use Rattle.qspi_operation.specs.Machine.{Want, reads, writes, nothing, bytesIn, overlaid, Script, begin}
 use Rattle.qspi_operation.specs.Points.{Lending, sameAs, Point, outset, wanted, stepAt, loggedAt, stepsAt, ranAt, ranLog, answerAt, changedAt}
-use Rattle.qspi_operation.specs.Step.{isGoing, dueOf, stepOf, logOf, bufferOf, programmedOf}
+use Rattle.qspi_operation.specs.Step.{isGoing, dueOf, stepOf, logOf, bufferOf, countedOf}
 
 -- ---- the answers of the code, by 01's numbers and values
 
@@ -26,7 +26,7 @@ givenBy o = valuesOf (o .job .script .gives) (o .job .«low_level» .clock) (o .
 
 -- an operation with an answer: its own, or that of a step or a run of it
 abbrev pub answerWith : Op → Status → Answered
-answerWith o a = record { says = saidBy a (givenBy o); used = o .used; replies = o .replies; programmed = programmedOf o }
+answerWith o a = record { says = saidBy a (givenBy o); used = o .used; replies = o .replies; counted = countedOf o }
 
 abbrev pub answerOf : Op → Answered
 answerOf o = answerWith o (o .status)

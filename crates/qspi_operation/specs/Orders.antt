@@ -65,4 +65,4 @@ pub record InOrder (c : Script) (g : Lending) (log₀ : List ℕ) (o : Op) (buff
       → (called c (g .room / 2) (repliesOf made) .log ≡ made) × ((called c (g .room / 2) (repliesOf made) .state ≡ state) × (answerOf o ≡ answeredOf (called c (g .room / 2) (repliesOf made))))
   -- one under way goes on: an access is due
   pub goes : isGoing (o .status) ≡ true
-      → (want state ≡ nothing → ⊥) × (answerOf o ≡ record { says = goesOn; used = 2 * length made; replies = readsOf made; programmed = countIn state })
+      → (want state ≡ nothing → ⊥) × (answerOf o ≡ record { says = goesOn; used = 2 * length made; replies = readsOf made; counted = countIn state })

@@ -114,14 +114,14 @@ ranLog room replies p log = sets log (2 * length (p .made)) (encode (rest room r
 
 -- ---- answers
 
--- number and values, used counts, bytes programmed
+-- number and values, used counts, bytes programmed or sectors finished
 abbrev pub answerAt : Point → Answered
-answerAt p = record { says = saidBy (p .answer) (valuesIn (p .state)); used = 2 * length (p .made); replies = readsOf (p .made); programmed = countIn (p .state) }
+answerAt p = record { says = saidBy (p .answer) (valuesIn (p .state)); used = 2 * length (p .made); replies = readsOf (p .made); counted = countIn (p .state) }
 
 -- 25, with the counts so far
 abbrev pub changedAt : Point → Answered
-changedAt p = record { says = said (paper.refused paper.LentLengthChanged); used = 2 * length (p .made); replies = readsOf (p .made); programmed = countIn (p .state) }
+changedAt p = record { says = said (paper.refused paper.LentLengthChanged); used = 2 * length (p .made); replies = readsOf (p .made); counted = countIn (p .state) }
 
 -- of a whole run
 abbrev pub answeredOf : Result → Answered
-answeredOf r = record { says = saidBy (r .answer) (valuesIn (r .state)); used = 2 * length (r .log); replies = readsOf (r .log); programmed = countIn (r .state) }
+answeredOf r = record { says = saidBy (r .answer) (valuesIn (r .state)); used = 2 * length (r .log); replies = readsOf (r .log); counted = countIn (r .state) }

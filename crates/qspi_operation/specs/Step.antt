@@ -21,6 +21,8 @@ use Rattle.qspi_script.specs.declared.Status.{Status}
 use Rattle.qspi_script.specs.declared.Status.the-variants as status
 use Rattle.qspi_script.specs.declared.Number.{Number}
 use Rattle.qspi_script.specs.declared.Number.the-variants.{Of, Without}
+use Rattle.qspi_script.specs.declared.Sequel.{Sequel}
+use Rattle.qspi_script.specs.declared.Sequel.the-variants as sequel
 use Rattle.qspi_script.specs.declared.Job.{Job}
 use Rattle.qspi_script.specs.declared.Place.{Place}
 use Rattle.qspi_script.specs.declared.Turned.{Turned}
@@ -49,6 +51,8 @@ isGoing status.ProgrammingErrorBitSet = false
 isGoing status.RepliesEnded = false
 isGoing status.LogFull = false
 isGoing status.LentLengthChanged = false
+isGoing status.RepeatedSector = false
+isGoing status.ListTooLong = false
 
 -- ---- the access that is due
 
@@ -217,12 +221,26 @@ pickReply false a b = b
 abbrev pub replyOf : List ℕ → ℕ → Reply
 replyOf replies at = pickReply (ltb at (length replies)) (Word (getD replies at 0)) Nothing
 
--- ---- the bytes programmed
+-- ---- what the answer counts
 
--- "4 or 5 may come after finished chunks, .. whose bytes the answer counts"; "the failed chunk isn't counted": the bytes done are those of
--- the finished chunks, and only `write_pages` has chunks
-abbrev pub programmedAt : Job → Place → ℕ
-programmedAt job p = cond (job .script .paging) (p .done) 0
+-- "4 or 5 may come after finished chunks, .. whose bytes the answer counts"; "the failed chunk isn't counted": the bytes done are those of the finished chunks of `write_pages`. U1: "The
+-- answer counts sectors finished": of a list what is done are its finished sectors. Any other call counts nothing
+abbrev pub countedBy : Sequel → ℕ → ℕ
+countedBy sequel.Once done = 0
+countedBy sequel.Pages done = done
+countedBy sequel.Sectors done = done
 
-abbrev pub programmedOf : Op → ℕ
-programmedOf o = programmedAt (o .job) (o .place)
+-- a list of sectors, which is lent as data
+abbrev pub isList : Sequel → Bool
+isList sequel.Once = false
+isList sequel.Pages = false
+isList sequel.Sectors = true
+
+abbrev pub erasesList : Op → Bool
+erasesList o = isList (o .job .script .sequel)
+
+abbrev pub countedAt : Job → Place → ℕ
+countedAt job p = countedBy (job .script .sequel) (p .done)
+
+abbrev pub countedOf : Op → ℕ
+countedOf o = countedAt (o .job) (o .place)

@@ -8,13 +8,14 @@ ghost use Rattle.qspi_transfer.specs.Wire.{freshWire, pickWire, wireNext};
 ghost use Rattle.qspi_transfer.specs.declared.Phase.the-variants.{DrainStatus};
 ghost use Rattle.qspi_script.specs.Stages.{frameOf};
 ghost use Rattle.qspi_script.specs.declared.Status.the-variants.{Going};
-ghost use Rattle.qspi_operation.specs.Step.{isGoing, registerAccess, sendAccess, turnedOn, accessOf, shown, dueOf, askedAnswer, answered, sameLengths, going, stopped, counted, written, replyOf, stepOf, logOf, bufferOf, programmedOf};
+ghost use Rattle.qspi_operation.specs.Step.{isGoing, registerAccess, sendAccess, turnedOn, accessOf, shown, dueOf, askedAnswer, answered, sameLengths, going, stopped, counted, written, replyOf, stepOf, logOf, bufferOf, countedOf, erasesList};
 ghost use Rattle.qspi_operation.specs.Follows.{StepFollows, DueFollows, RunFollows};
 ghost use Rattle.qspi_operation.specs.Pass.{isOn, passedBy, standsFor, Onward};
 ghost use Rattle.qspi_operation.specs.Run.{runOf, Ran};
 use qspi_script::Job;
 use qspi_script::Number;
 use qspi_script::Place;
+use qspi_script::Sequel;
 use qspi_script::Status;
 use qspi_transfer::Due;
 use qspi_transfer::Frame;
@@ -537,12 +538,32 @@ pub fn run(op: Op, data: &[u8], buffer: &mut [u8], log: &mut [u32], replies: &[u
     Stepped { op: o, answer }
 }
 
-// The bytes that the answer of `write_pages` counts: those of the chunks that ended clean.
-pub fn programmed(op: Op) -> usize
-    ensures count { λ r. ⌜ r ≡ programmedOf op ⌝ }
+// What the answer counts: the bytes of the chunks of `write_pages` that ended clean, or the sectors of a
+// list that did.
+pub fn counted(op: Op) -> usize
+    ensures count { λ r. ⌜ r ≡ countedOf op ⌝ }
 {
     let job = op.job;
     let script = job.script;
+    let sequel = script.sequel;
     let place = op.place;
-    if script.paging { place.done } else { 0 }
+    match sequel {
+        Sequel::Once => 0,
+        Sequel::Pages => place.done,
+        Sequel::Sectors => place.done,
+    }
+}
+
+// Whether an operation erases a list of sectors, which it is lent as its data.
+pub fn erases_list(op: Op) -> bool
+    ensures list { λ r. ⌜ r ≡ erasesList op ⌝ }
+{
+    let job = op.job;
+    let script = job.script;
+    let sequel = script.sequel;
+    match sequel {
+        Sequel::Once => false,
+        Sequel::Pages => false,
+        Sequel::Sectors => true,
+    }
 }

@@ -6,9 +6,9 @@ use mathlib.Core.List.{List}
 use lib.Dec.{eqb}
 use Rattle.qspi_script.specs.Answer.{Said, saidBy, numberIn, orElse, valuesIn}
 use Rattle.qspi_script.specs.declared.Status.{Status}
-use Rattle.qspi_script.specs.declared.Status.the-variants.{Going, Done, OutOfRange, Alignment, DataTooLarge, NotAligned, CrossesPageBoundary, AddressSpan, FieldTooWide, EraseErrorBitSet, ProgrammingErrorBitSet, RepliesEnded, LogFull, LentLengthChanged}
+use Rattle.qspi_script.specs.declared.Status.the-variants.{Going, Done, OutOfRange, Alignment, DataTooLarge, NotAligned, CrossesPageBoundary, AddressSpan, FieldTooWide, EraseErrorBitSet, ProgrammingErrorBitSet, RepliesEnded, LogFull, LentLengthChanged, RepeatedSector, ListTooLong}
 
--- the status that a number of 01 stands for; any other number is that of no answer
+-- the status that a number stands for; any other number is that of no answer
 abbrev statusFrom : ℕ → Status
 statusFrom n =
     cond (eqb n 0) Done
@@ -23,7 +23,9 @@ statusFrom n =
     (cond (eqb n 22) ProgrammingErrorBitSet
     (cond (eqb n 23) RepliesEnded
     (cond (eqb n 24) LogFull
-    (cond (eqb n 25) LentLengthChanged Going))))))))))))
+    (cond (eqb n 25) LentLengthChanged
+    (cond (eqb n 32) RepeatedSector
+    (cond (eqb n 33) ListTooLong Going))))))))))))))
 
 tells : (a : Status) (vs : List ℕ) (w : ℕ) → statusFrom w ≡ Going → statusFrom (orElse (numberIn (saidBy a vs)) w) ≡ a
 tells Going vs w e = e
@@ -40,6 +42,8 @@ tells ProgrammingErrorBitSet vs w e = refl
 tells RepliesEnded vs w e = refl
 tells LogFull vs w e = refl
 tells LentLengthChanged vs w e = refl
+tells RepeatedSector vs w e = refl
+tells ListTooLong vs w e = refl
 
 -- THEOREM. Equal words, equal status; so a promise on what is said fixes the status.
 pub said-fixes : (a b : Status) (vs ws : List ℕ) → saidBy a vs ≡ saidBy b ws → a ≡ b
@@ -69,3 +73,5 @@ number-alone ProgrammingErrorBitSet vs ws = refl
 number-alone RepliesEnded vs ws = refl
 number-alone LogFull vs ws = refl
 number-alone LentLengthChanged vs ws = refl
+number-alone RepeatedSector vs ws = refl
+number-alone ListTooLong vs ws = refl

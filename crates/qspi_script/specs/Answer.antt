@@ -1,5 +1,5 @@
 -- What a call answers, as document 01 speaks of it: "If an answer is an enum, the promises use a definition that states this paper's number and values for each of its
--- cases." A call that goes on has no number yet, so that 0 is said only by one that is done.
+-- cases." A call that goes on has no number yet, so that 0 is said only by one that is done. 32 and 33 are document 02's (U1).
 use Prim.Native.Nat.{ℕ}
 use mathlib.Core.List.{List, [], _∷_}
 use Rattle.zynq7000.specs.Number as paper
@@ -17,12 +17,12 @@ pub data Said : Type 0 where
   goesOn : Said
   said : paper.Answer → Said
 
--- by its status, and the values that its call has where it is done
+-- by its status, and the values that its call has: where it is done, or where it is refused for an entry of a list, "with the first place, from 0"
 abbrev pub saidBy : Status → List ℕ → Said
 saidBy status.Going vs = goesOn
 saidBy status.Done vs = said (paper.accepted vs)
-saidBy status.OutOfRange vs = said (paper.refused paper.OutOfRange)
-saidBy status.Alignment vs = said (paper.refused paper.Alignment)
+saidBy status.OutOfRange vs = said (paper.refusedWith paper.OutOfRange vs)
+saidBy status.Alignment vs = said (paper.refusedWith paper.Alignment vs)
 saidBy status.DataTooLarge vs = said (paper.refused paper.DataTooLarge)
 saidBy status.NotAligned vs = said (paper.refused paper.NotAligned)
 saidBy status.CrossesPageBoundary vs = said (paper.refused paper.CrossesPageBoundary)
@@ -33,23 +33,26 @@ saidBy status.ProgrammingErrorBitSet vs = said (paper.refused paper.ProgrammingE
 saidBy status.RepliesEnded vs = said (paper.refused paper.RepliesEnded)
 saidBy status.LogFull vs = said (paper.refused paper.LogFull)
 saidBy status.LentLengthChanged vs = said (paper.refused paper.LentLengthChanged)
+saidBy status.RepeatedSector vs = said (paper.refusedWith paper.RepeatedSector vs)
+saidBy status.ListTooLong vs = said (paper.refused paper.ListTooLong)
 
--- the values of a call that is done, by what it gives, the clock word of its inputs and its last three replies: "Status and config bytes are the top byte of the reply"; "one reply, its bytes 1 to 3"; "bytes 1
--- to 8 of three replies"; "Its SLCR clock word is returned"
+-- the values of a call, by what it gives, the clock word of its inputs and its last three replies: "Status and config bytes are the top byte of the reply"; "one reply, its bytes 1 to 3"; "bytes 1
+-- to 8 of three replies"; "Its SLCR clock word is returned"; U1: "with the first place, from 0, that meets either", "the first that repeats an earlier one"
 abbrev pub valuesOf : Gives → ℕ → ℕ → ℕ → ℕ → List ℕ
 valuesOf gives.Nothing clock older old last = []
 valuesOf gives.Register clock older old last = topByte last ∷ []
 valuesOf gives.Id clock older old last = replyBytes last
 valuesOf gives.LongId clock older old last = longReplyBytes older old last
 valuesOf gives.Clock clock older old last = clock ∷ []
+valuesOf (gives.Place n) clock older old last = n ∷ []
 
 -- the whole of an answer: what is said, with the call's own values (a register's byte, the bytes of an id, the SLCR word), "both used counts (log words, replies)", and
--- "the count of programmed bytes", a refusal included
+-- the count: of programmed bytes by `write_pages`, of finished sectors by a list, a refusal included; 0 by any other call
 pub record Answered : Type 0 where
   pub says : Said
   pub used : ℕ
   pub replies : ℕ
-  pub programmed : ℕ
+  pub counted : ℕ
 
 -- ---- its parts
 
@@ -63,7 +66,7 @@ abbrev pub orElse : Number → ℕ → ℕ
 orElse (Of n) without = n
 orElse Without without = without
 
--- that of a status; one that goes on has none, and is given the next after 01's last
+-- that of a status; one that goes on has none, and is given one that no answer has
 abbrev pub numberOf : Status → ℕ
 numberOf a = orElse (numberIn (saidBy a [])) 26
 

@@ -7,12 +7,15 @@ use lib.Dec.{leb, eqb}
 use lib.ListN.{length, getD}
 use Rattle.zynq7000.specs.Bits.{flagValue}
 use Rattle.zynq7000_hal.specs.Fifo.{prefilled}
+use Rattle.zedboard_bsp.specs.Limits.{sectorStart}
 use Rattle.zedboard_bsp.specs.Words.{wordOf, commandOnly, commandWord, writeStatusWord, writeRegistersWord}
 use Rattle.zedboard_bsp.specs.declared.qspi_spansion.RegisterId.the-variants as command
 use Rattle.qspi_transfer.specs.LowLevel.{sequenceMore}
 use Rattle.qspi_transfer.specs.declared.Frame.{Frame}
 use Rattle.qspi_script.specs.declared.Stage.{Stage}
 use Rattle.qspi_script.specs.declared.Stage.the-variants.{Enable, Disable, Clear, ReadStatus, ReadConfig, WriteStatus, WriteRegisters, ReadId, ReadLongId, Erase, Program, Poll, Read, Registers, End}
+use Rattle.qspi_script.specs.declared.Sequel.{Sequel}
+use Rattle.qspi_script.specs.declared.Sequel.the-variants.{Once, Pages, Sectors}
 use Rattle.qspi_script.specs.declared.Job.{Job}
 use Rattle.qspi_script.specs.declared.Place.{Place}
 
@@ -74,25 +77,38 @@ chunkAddress job p = (job .addr + p .done % 2 ^ 32) % 2 ^ 32
 abbrev pub readWord : Job → Place → ℕ
 readWord job p = cond (job .reading .fast) (commandWord command.FastRead (chunkAddress job p)) (commandWord command.Read (chunkAddress job p))
 
-abbrev pub firstAt : Stage → Job → Place → ℕ
-firstAt Enable job p = commandOnly command.WriteEnable
-firstAt Disable job p = commandOnly command.WriteDisable
-firstAt Clear job p = commandOnly command.ClearStatus
-firstAt ReadStatus job p = commandOnly command.ReadStatus1
-firstAt ReadConfig job p = commandOnly command.ReadConfig
-firstAt WriteStatus job p = writeStatusWord (p .sr)
-firstAt WriteRegisters job p = writeRegistersWord (p .sr) (p .cr)
-firstAt ReadId job p = commandOnly command.ReadId
-firstAt ReadLongId job p = commandOnly command.ReadId
-firstAt Erase job p = commandWord command.SectorErase (job .addr)
-firstAt Program job p = commandWord command.PageProgram (chunkAddress job p)
-firstAt Poll job p = commandOnly command.ReadStatus1
-firstAt Read job p = readWord job p
-firstAt Registers job p = 0
-firstAt End job p = 0
+-- the sector of a list after so many: a byte a sector, its number
+abbrev pub listedSector : List ℕ → ℕ → ℕ
+listedSector bytes done = sectorStart (getD bytes done 0)
 
-abbrev pub firstWord : Job → Place → ℕ
-firstWord job p = firstAt (p .stage) job p
+-- the sector to erase: the call's own, or that of its list
+abbrev pub addressBy : Sequel → Job → Place → List ℕ → ℕ
+addressBy Once job p bytes = job .addr
+addressBy Pages job p bytes = job .addr
+addressBy Sectors job p bytes = listedSector bytes (p .done)
+
+abbrev pub sectorAddress : Job → Place → List ℕ → ℕ
+sectorAddress job p bytes = addressBy (job .script .sequel) job p bytes
+
+abbrev pub firstAt : Stage → Job → Place → List ℕ → ℕ
+firstAt Enable job p bytes = commandOnly command.WriteEnable
+firstAt Disable job p bytes = commandOnly command.WriteDisable
+firstAt Clear job p bytes = commandOnly command.ClearStatus
+firstAt ReadStatus job p bytes = commandOnly command.ReadStatus1
+firstAt ReadConfig job p bytes = commandOnly command.ReadConfig
+firstAt WriteStatus job p bytes = writeStatusWord (p .sr)
+firstAt WriteRegisters job p bytes = writeRegistersWord (p .sr) (p .cr)
+firstAt ReadId job p bytes = commandOnly command.ReadId
+firstAt ReadLongId job p bytes = commandOnly command.ReadId
+firstAt Erase job p bytes = commandWord command.SectorErase (sectorAddress job p bytes)
+firstAt Program job p bytes = commandWord command.PageProgram (chunkAddress job p)
+firstAt Poll job p bytes = commandOnly command.ReadStatus1
+firstAt Read job p bytes = readWord job p
+firstAt Registers job p bytes = 0
+firstAt End job p bytes = 0
+
+abbrev pub firstWord : Job → Place → List ℕ → ℕ
+firstWord job p bytes = firstAt (p .stage) job p bytes
 
 -- the four data bytes from a place on, low byte first; 0 where they are not all there
 abbrev pub dataWord : List ℕ → ℕ → ℕ
@@ -124,4 +140,4 @@ furtherWord p index bytes = furtherAt (p .stage) ((p .done + index * 4) % 2 ^ 64
 
 -- the word that is sent after so many others
 abbrev pub dueWord : Job → Place → ℕ → List ℕ → ℕ
-dueWord job p sent bytes = cond (eqb sent 0) (firstWord job p) (furtherWord p (sent - 1) bytes)
+dueWord job p sent bytes = cond (eqb sent 0) (firstWord job p bytes) (furtherWord p (sent - 1) bytes)

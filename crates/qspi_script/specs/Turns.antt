@@ -13,6 +13,8 @@ use Rattle.qspi_script.specs.declared.Status.{Status}
 use Rattle.qspi_script.specs.declared.Status.the-variants.{Going, Done, NotAligned, CrossesPageBoundary}
 use Rattle.qspi_script.specs.declared.Purpose.{Purpose}
 use Rattle.qspi_script.specs.declared.Purpose.the-variants.{Answer, Configure, Protect}
+use Rattle.qspi_script.specs.declared.Sequel.{Sequel}
+use Rattle.qspi_script.specs.declared.Sequel.the-variants.{Once, Pages, Sectors}
 use Rattle.qspi_script.specs.declared.Script.{Script}
 use Rattle.qspi_script.specs.declared.Wanted.{Wanted}
 use Rattle.qspi_script.specs.declared.Job.{Job}
@@ -86,12 +88,22 @@ pickPage job p =
 abbrev pub nextPage : Job → Place → Turned
 nextPage job p = pickPage job (pageAt job p)
 
--- the chunk at hand is finished: "its status loop has ended clean"
-abbrev pub grown : Place → Place
-grown p = record { stage = p .stage; done = (p .done + p .chunk) % 2 ^ 64; chunk = p .chunk; sr = p .sr; cr = p .cr }
+-- the sector of a list after those done
+abbrev pub nextSector : Job → Place → Turned
+nextSector job p = pick (ltb (p .done) (job .lent .«data»)) (begin p Enable) (finish p Done)
+
+-- so much more is done
+abbrev pub grown : Place → ℕ → Place
+grown p more = record { stage = p .stage; done = (p .done + more) % 2 ^ 64; chunk = p .chunk; sr = p .sr; cr = p .cr }
+
+-- the chunk or the sector at hand is finished: "its status loop has ended clean"
+abbrev pub settledBy : Sequel → Job → Place → Turned
+settledBy Once job p = finish p Done
+settledBy Pages job p = nextPage job (grown p (p .chunk))
+settledBy Sectors job p = nextSector job (grown p 1)
 
 abbrev pub settled : Job → Place → Turned
-settled job p = pick (job .script .paging) (nextPage job (grown p)) (finish p Done)
+settled job p = settledBy (job .script .sequel) job p
 
 -- "the error bit (6 for program, 5 for erase) tested before bit 0"
 abbrev pub failed : Script → ℕ → Bool

@@ -1,6 +1,6 @@
--- The numbers of document 01 that bound an address and a length: "What the input can bring on" and "One transfer, access by access". Each stands here, and everywhere else
--- by its name.
-use Prim.Native.Nat.{ℕ, _-_}
+-- The numbers of the papers that bound an address, a length and a list: document 01, "What the input can bring on" and "One transfer, access by access"; document 02, U1. Each stands
+-- here, and everywhere else by its name.
+use Prim.Native.Nat.{ℕ, _-_, _*_, _/_, _%_}
 use mathlib.Core.Bool.{Bool}
 use Rattle.zynq7000.specs.Bits.{flagValue}
 
@@ -11,6 +11,17 @@ lastEnd = 16777215
 -- rules 1 and 2: "addr not a multiple of 65,536"; the flash's "64 KiB sector"
 abbrev pub sectorSize : ℕ
 sectorSize = 65536
+
+-- the byte that stands for a sector in a list, and where that sector begins
+abbrev pub sectorNumber : ℕ → ℕ
+sectorNumber a = a / sectorSize % 256
+
+abbrev pub sectorStart : ℕ → ℕ
+sectorStart n = n * sectorSize
+
+-- "a list of up to 256 sector addresses"
+abbrev pub longestList : ℕ
+longestList = 256
 
 -- rule 3: "over 240 bytes"
 abbrev pub maxDataBytesPerWrite : ℕ

@@ -1,13 +1,15 @@
--- The numbers of document 01's answers, in one place: its tables "What the input can bring on" and "What the state can bring on".
+-- The numbers of the answers, in one place: document 01's tables "What the input can bring on" and "What the state can bring on", and what the requests of document 02 add
+-- (U1: "new 32 RepeatedSector .., new 33 ListTooLong").
 use Prim.Native.Nat.{ℕ}
 use mathlib.Core.List.{List, []}
 
--- the refusals by 01's names
+-- the refusals by the papers' names
 pub data Refusal : Type 0 where
   OutOfRange Alignment DataTooLarge NotAligned CrossesPageBoundary : Refusal
   RefDivOutOfRange RefClockSmallerThanCpu1xClock ZeroClock TargetTooFast : Refusal
   AddressSpan UnknownCode FieldTooWide BadLog : Refusal
   EraseErrorBitSet ProgrammingErrorBitSet RepliesEnded LogFull LentLengthChanged : Refusal
+  RepeatedSector ListTooLong : Refusal
 
 abbrev pub number : Refusal → ℕ
 number OutOfRange = 1
@@ -28,6 +30,8 @@ number ProgrammingErrorBitSet = 22
 number RepliesEnded = 23
 number LogFull = 24
 number LentLengthChanged = 25
+number RepeatedSector = 32
+number ListTooLong = 33
 
 -- an answer as 01 speaks of it: its number, 0 where nothing is refused, and its values in order
 pub record Answer : Type 0 where

@@ -21,7 +21,7 @@ returns c = simp (← c .begin .ensures, c .before .if1 .taken, ← c .before .b
 
 -- src/lib.rt:285:1
 returns-2 : tie.Need-returns-2
-returns-2 c = search needs
+returns-2 c = simp (c .if1 .left, ← c .before .is-going .ensures)
 
 pub wire-after-spec : {M : Type 1} → statement M
 wire-after-spec = tie.close (tie.spec is-going-requires begin-requires returns returns-2)

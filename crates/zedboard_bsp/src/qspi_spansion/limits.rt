@@ -3,9 +3,10 @@
 ghost use mathlib.Core.Path.{_≡_};
 ghost use Prim.Native.Nat.{_+_, _%_, min};
 ghost use lib.Dec.{ltb, eqb};
-ghost use Rattle.zedboard_bsp.specs.Limits.{lastEnd, sectorSize, maxDataBytesPerWrite, pageSize, recommendedProgramPageSize, largestChunk, addressSpan};
+ghost use Rattle.zedboard_bsp.specs.Limits.{lastEnd, sectorSize, sectorNumber, sectorStart, longestList, maxDataBytesPerWrite, pageSize, recommendedProgramPageSize, largestChunk, addressSpan};
 use crate::qspi_spansion::ADDRESS_SPAN;
 use crate::qspi_spansion::LAST_END;
+use crate::qspi_spansion::LONGEST_LIST;
 use crate::qspi_spansion::MAX_DATA_BYTES_PER_WRITE;
 use crate::qspi_spansion::PAGE_SIZE;
 use crate::qspi_spansion::RECOMMENDED_PROGRAM_PAGE_SIZE;
@@ -27,6 +28,27 @@ pub fn starts_sector(addr: u32) -> bool
     ensures start { λ r. ⌜ r ≡ eqb (addr % sectorSize) 0 ⌝ }
 {
     addr % SECTOR_SIZE as u32 == 0
+}
+
+// The byte that stands for a sector in a list: its number, since a sector in range begins below 2^24.
+pub fn sector_number(addr: u32) -> u8
+    ensures number { λ r. ⌜ r ≡ sectorNumber addr ⌝ }
+{
+    (addr / SECTOR_SIZE as u32 % 256) as u8
+}
+
+// Where the sector of a number begins.
+pub fn sector_start(number: u8) -> u32
+    ensures start { λ r. ⌜ r ≡ sectorStart number ⌝ }
+{
+    number as u32 * SECTOR_SIZE as u32
+}
+
+// 33: more sectors than one call erases.
+pub fn list_too_long(length: usize) -> bool
+    ensures size { λ r. ⌜ r ≡ ltb longestList length ⌝ }
+{
+    LONGEST_LIST < length
 }
 
 // Rule 3.

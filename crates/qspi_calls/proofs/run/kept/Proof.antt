@@ -3,8 +3,8 @@ use borrow.Author.Needs.{needs}
 use Rattle.qspi_calls.proofs.run.kept.Statement.{statement}
 use Rattle.qspi_calls.proofs.run.kept.Tie as tie
 
-is-done-requires : tie.Need-is-done-requires
-is-done-requires c κs = search needs
+has-values-requires : tie.Need-has-values-requires
+has-values-requires c κs = search needs
 
 returns : tie.Need-returns
 returns c = search needs
@@ -13,4 +13,4 @@ returns-2 : tie.Need-returns-2
 returns-2 c = search needs
 
 pub kept-spec : {M : Type 1} → statement M
-kept-spec = tie.close (tie.spec is-done-requires returns returns-2)
+kept-spec = tie.close (tie.spec has-values-requires returns returns-2)
