@@ -74,7 +74,7 @@ module _ (a : ℕ) (bytes rs log : List ℕ) where
       let y : r .ran .answer ≡ result .answer = said-fixes _ _ _ _ (ap (λ (x : Answered). x .says) e) in
       let u : r .ran .used ≡ answeredOf result .used = ap (λ (x : Answered). x .used) e in
       let i : r .ran .replies ≡ answeredOf result .replies = ap (λ (x : Answered). x .replies) e in
-      let n : r .programmed ≡ countIn (result .state) = ap (λ (x : Answered). x .programmed) e in
+      let n : r .programmed ≡ countIn (result .state) = ap (λ (x : Answered). x .counted) e in
       ap (λ (z : Status). record { ran = record { answer = z; used = r .ran .used; replies = r .ran .replies }; programmed = r .programmed }) y
       ∙ ap (λ (z : ℕ). record { ran = record { answer = result .answer; used = z; replies = r .ran .replies }; programmed = r .programmed }) u
       ∙ ap (λ (z : ℕ). record { ran = record { answer = result .answer; used = answeredOf result .used; replies = z }; programmed = r .programmed }) i

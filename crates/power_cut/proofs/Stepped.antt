@@ -54,7 +54,7 @@ module _ (a : ℕ) (bs : List ℕ) where
   saving-at p o log octets s f e =
       let z = shows (lending bs log) f in
       let u = ap (λ (x : Answered). x .used) (z .answer) in
-      let n = ap (λ (x : Answered). x .programmed) (z .answer) in
+      let n = ap (λ (x : Answered). x .counted) (z .answer) in
       record {
         saved = record {
           accesses = p .made;

@@ -11,7 +11,7 @@ use Rattle.power_cut.specs.declared.PagesRan.{PagesRan}
 
 -- 01's number, the used counts and the bytes programmed; `write_pages` has no other values
 abbrev pub answerOf : PagesRan → Answered
-answerOf r = record { says = saidBy (r .ran .answer) []; used = r .ran .used; replies = r .ran .replies; programmed = r .programmed }
+answerOf r = record { says = saidBy (r .ran .answer) []; used = r .ran .used; replies = r .ran .replies; counted = r .programmed }
 
 -- the used words of the log are these accesses, each to a register's offset (so there are no others of which they are the words:
 -- `one-log` in proofs/Offsets), and the statement holds of them, of the answer and of its count

@@ -8,7 +8,7 @@ use Rattle.power_cut.proofs.write_pages.Tie as tie
 use Rattle.power_cut.proofs.write_pages.Reads as reads
 use Rattle.power_cut.proofs.write_pages.Lts as lts
 use Rattle.qspi_calls.proofs.start.write_pages.Reads as write-pages-reads
-use Rattle.qspi_operation.proofs.programmed.Reads as programmed-reads
+use Rattle.qspi_operation.proofs.counted.Reads as counted-reads
 use Rattle.qspi_operation.proofs.run.Reads as run-reads
 use Rattle.qspi_calls.proofs.run.finish.Reads as finish-reads
 
@@ -25,8 +25,8 @@ run-requires : tie.Need-run-requires
 run-requires c κs = search needs
 
 -- src/lib.rt:27:9
-programmed-requires : tie.Need-programmed-requires
-programmed-requires c κs = search needs
+counted-requires : tie.Need-counted-requires
+counted-requires c κs = search needs
 
 -- src/lib.rt:28:9
 finish-requires : tie.Need-finish-requires
@@ -42,7 +42,7 @@ returns c =
     let w = c .before .before .before .before .before .before .before .before .before .before .before in
     let p =
     promise.promised (w .before .args .addr) (now (w .before .args .«data»)) (now (w .before .args .replies)) (now (w .before .args .log)) (c .before .before .before .before .before .before .before .before .write-pages .ensures)
-    (c .before .before .before .before .before .run .ensures) (c .before .programmed .ensures) (c .finish .ensures) in
+    (c .before .before .before .before .before .run .ensures) (c .before .counted .ensures) (c .finish .ensures) in
     (p .answer, (p .logged, promise.saved (w .before .args .addr) (now (w .before .args .«data»)) (now (w .before .args .replies)) (now (w .before .args .log)) (λ i. omega (arith, w .shared-slice-known .given i)) p))
 
 pub write-pages-spec : {M : Type 1} → statement M
@@ -52,7 +52,7 @@ write-pages-spec =
     write-pages-requires
     slice-aggregate-run
     run-requires
-    programmed-requires
+    counted-requires
     finish-requires
     same-length
     returns)
