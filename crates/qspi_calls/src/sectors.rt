@@ -29,7 +29,7 @@ pub fn sector_status(addr: u32) -> Status
 pub fn first_refused(list: &[u32]) -> usize
     ensures place { λ r. ⌜ r ≡ firstRefused (now (list .entry)) ⌝ }
 {
-    let mut at = 0;
+    let mut at: usize = 0;
     while at < list.len() {
         if qspi_operation::is_going(sector_status(list[at])) {
             at += 1;
@@ -45,7 +45,7 @@ fn is_among(list: &[u32], count: usize, addr: u32) -> bool
     requires { ⌜ count ≤ length (now list) ⌝ }
     ensures among { λ r. ⌜ r ≡ among addr (take count (now (list .entry))) ⌝ }
 {
-    let mut at = 0;
+    let mut at: usize = 0;
     while at < count {
         if list[at] == addr {
             return true;
@@ -59,7 +59,7 @@ fn is_among(list: &[u32], count: usize, addr: u32) -> bool
 pub fn first_repeat(list: &[u32]) -> usize
     ensures place { λ r. ⌜ r ≡ firstRepeat [] (now (list .entry)) ⌝ }
 {
-    let mut at = 0;
+    let mut at: usize = 0;
     while at < list.len() {
         if is_among(list, at, list[at]) {
             return at;
@@ -75,7 +75,7 @@ pub fn numbered(list: &[u32]) -> [u8; 256]
     ensures numbers { λ r. ⌜ r ≡ numbersIn longestList (now (list .entry)) ⌝ }
 {
     let mut numbers = [0u8; 256];
-    let mut at = 0;
+    let mut at: usize = 0;
     while at < LONGEST_LIST {
         if at < list.len() {
             numbers[at] = limits::sector_number(list[at]);

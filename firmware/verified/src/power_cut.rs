@@ -18,7 +18,7 @@ pub fn write_pages(addr: u32, data: &[u8], replies: &[u32], log: &mut [u32]) -> 
     let op = start::write_pages(addr, data.len(), log.len());
     let mut buffer = [0u8; 0];
     let s = qspi_operation::run(op, data, &mut buffer, log, replies);
-    let programmed = qspi_operation::programmed(s.op);
+    let programmed = qspi_operation::counted(s.op);
     let ran = run::finish(s);
     PagesRan { ran, programmed }
 }

@@ -6,6 +6,7 @@ use crate::qspi_script;
 use crate::qspi_script::Job;
 use crate::qspi_script::Number;
 use crate::qspi_script::Place;
+use crate::qspi_script::Sequel;
 use crate::qspi_script::Status;
 use crate::qspi_transfer;
 use crate::qspi_transfer::Due;
@@ -476,10 +477,28 @@ pub fn run(op: Op, data: &[u8], buffer: &mut [u8], log: &mut [u32], replies: &[u
     Stepped { op: o, answer }
 }
 
-// The bytes that the answer of `write_pages` counts: those of the chunks that ended clean.
-pub fn programmed(op: Op) -> usize {
+// What the answer counts: the bytes of the chunks of `write_pages` that ended clean, or the sectors of a
+// list that did.
+pub fn counted(op: Op) -> usize {
     let job = op.job;
     let script = job.script;
+    let sequel = script.sequel;
     let place = op.place;
-    if script.paging { place.done } else { 0 }
+    match sequel {
+        Sequel::Once => 0,
+        Sequel::Pages => place.done,
+        Sequel::Sectors => place.done,
+    }
+}
+
+// Whether an operation erases a list of sectors, which it is lent as its data.
+pub fn erases_list(op: Op) -> bool {
+    let job = op.job;
+    let script = job.script;
+    let sequel = script.sequel;
+    match sequel {
+        Sequel::Once => false,
+        Sequel::Pages => false,
+        Sequel::Sectors => true,
+    }
 }

@@ -33,7 +33,7 @@ pub enum Stage {
     End,
 }
 
-// How a call stands: going on, done, or ended by a refusal of document 01. `LentLengthChanged` is
+// How a call stands: going on, done, or ended by a refusal of the papers. `LentLengthChanged` is
 // answered by a step and ends nothing.
 #[derive(Clone, Copy, Debug, PartialEq, Eq)]
 pub enum Status {
@@ -51,9 +51,11 @@ pub enum Status {
     RepliesEnded,
     LogFull,
     LentLengthChanged,
+    RepeatedSector,
+    ListTooLong,
 }
 
-// Document 01's number of an answer, where it has one: a call that goes on has none.
+// The papers' number of an answer, where it has one: a call that goes on has none.
 #[derive(Clone, Copy, Debug, PartialEq, Eq)]
 pub enum Number {
     Of(u32),
@@ -87,6 +89,8 @@ impl Status {
             Status::RepliesEnded => Number::Of(23),
             Status::LogFull => Number::Of(24),
             Status::LentLengthChanged => Number::Of(25),
+            Status::RepeatedSector => Number::Of(32),
+            Status::ListTooLong => Number::Of(33),
         }
     }
 }
@@ -99,8 +103,9 @@ pub enum Purpose {
     Protect,
 }
 
-// What a call that is done gives beside its counts: nothing, the byte of a register, an id of one reply or
-// of three, or the SLCR clock word.
+// What a call gives beside its counts. One that is done gives nothing, the byte of a register, an id of
+// one reply or of three, or the SLCR clock word; a list of sectors that is refused for an entry gives the
+// entry's place.
 #[derive(Clone, Copy, Debug, PartialEq, Eq)]
 pub enum Gives {
     Nothing,
@@ -108,17 +113,26 @@ pub enum Gives {
     Id,
     LongId,
     Clock,
+    Place(u8),
 }
 
-// What comes after what, where calls differ. `erasing` picks the error bit; `paging` is `write_pages`,
-// which goes on with the next chunk once one is programmed.
+// What comes once program or erase has ended clean: the end, the next chunk of `write_pages`, or the next
+// sector of a list.
+#[derive(Clone, Copy, Debug, PartialEq, Eq)]
+pub enum Sequel {
+    Once,
+    Pages,
+    Sectors,
+}
+
+// What comes after what, where calls differ. `erasing` picks the error bit.
 #[derive(Clone, Copy, Debug, PartialEq, Eq)]
 pub struct Script {
     pub after_enable: Stage,
     pub after_clear: Stage,
     pub after_disable: Status,
     pub erasing: bool,
-    pub paging: bool,
+    pub sequel: Sequel,
     pub purpose: Purpose,
     pub gives: Gives,
 }
@@ -167,8 +181,8 @@ pub struct Job {
     pub low_level: LowLevel,
 }
 
-// Where a call stands: its stage, the bytes done, the bytes of the chunk at hand, and the two register
-// bytes at hand.
+// Where a call stands: its stage, the bytes done (of a list, the sectors), the bytes of the chunk at hand,
+// and the two register bytes at hand.
 #[derive(Clone, Copy, Debug, PartialEq, Eq)]
 pub struct Place {
     pub stage: Stage,
@@ -283,12 +297,31 @@ fn read_word(job: Job, place: Place) -> u32 {
     }
 }
 
+// The sector of a list after those finished. A list is lent as data, a byte a sector: its number.
+fn listed_sector(data: &[u8], done: usize) -> u32 {
+    if done < data.len() {
+        limits::sector_start(data[done])
+    } else {
+        0
+    }
+}
+
+// The sector to erase: the call's own, or that of its list.
+fn sector_address(job: Job, place: Place, data: &[u8]) -> u32 {
+    let script = job.script;
+    let sequel = script.sequel;
+    match sequel {
+        Sequel::Once => job.addr,
+        Sequel::Pages => job.addr,
+        Sequel::Sectors => listed_sector(data, place.done),
+    }
+}
+
 // The command word of a stage.
-fn first_word(job: Job, place: Place) -> u32 {
+fn first_word(job: Job, place: Place, data: &[u8]) -> u32 {
     let stage = place.stage;
     let sr = place.sr;
     let cr = place.cr;
-    let addr = job.addr;
     match stage {
         Stage::Enable => words::command_only(RegisterId::WriteEnable),
         Stage::Disable => words::command_only(RegisterId::WriteDisable),
@@ -299,7 +332,10 @@ fn first_word(job: Job, place: Place) -> u32 {
         Stage::WriteRegisters => words::write_registers_word(sr, cr),
         Stage::ReadId => words::command_only(RegisterId::ReadId),
         Stage::ReadLongId => words::command_only(RegisterId::ReadId),
-        Stage::Erase => words::command_word(RegisterId::SectorErase, addr),
+        Stage::Erase => words::command_word(
+            RegisterId::SectorErase,
+            sector_address(job, place, data),
+        ),
         Stage::Program => words::command_word(RegisterId::PageProgram, chunk_address(job, place)),
         Stage::Poll => words::command_only(RegisterId::ReadStatus1),
         Stage::Read => read_word(job, place),
@@ -347,7 +383,7 @@ fn further_word(place: Place, index: u32, data: &[u8]) -> u32 {
 // The word that is sent after so many others.
 pub fn due_word(job: Job, place: Place, sent: u32, data: &[u8]) -> u32 {
     if sent == 0 {
-        first_word(job, place)
+        first_word(job, place, data)
     } else {
         further_word(place, sent - 1, data)
     }
@@ -459,21 +495,38 @@ pub fn next_page(job: Job, place: Place) -> Turned {
     begun(next, Stage::Enable)
 }
 
-// Program or erase has ended clean. Only here do the bytes of a chunk count as programmed.
-fn settle(job: Job, place: Place) -> Turned {
-    let script = job.script;
+// The sector of a list after those finished: its write enable, or the end. Its rules were tested before
+// the first access.
+pub fn next_sector(job: Job, place: Place) -> Turned {
+    let lent = job.lent;
+    if place.done < lent.data {
+        begun(place, Stage::Enable)
+    } else {
+        ended(place, Status::Done)
+    }
+}
+
+// The place with so much more done.
+fn grow(place: Place, more: usize) -> Place {
     let stage = place.stage;
-    let grown = Place {
+    Place {
         stage,
-        done: usize::wrapping_add(place.done, place.chunk as usize),
+        done: usize::wrapping_add(place.done, more),
         chunk: place.chunk,
         sr: place.sr,
         cr: place.cr,
-    };
-    if script.paging {
-        next_page(job, grown)
-    } else {
-        ended(place, Status::Done)
+    }
+}
+
+// Program or erase has ended clean. Only here do the bytes of a chunk count as programmed, and a sector of
+// a list as finished.
+fn settle(job: Job, place: Place) -> Turned {
+    let script = job.script;
+    let sequel = script.sequel;
+    match sequel {
+        Sequel::Once => ended(place, Status::Done),
+        Sequel::Pages => next_page(job, grow(place, place.chunk as usize)),
+        Sequel::Sectors => next_sector(job, grow(place, 1)),
     }
 }
 

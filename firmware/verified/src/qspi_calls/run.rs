@@ -27,30 +27,44 @@ pub fn finish(s: Stepped) -> Ran {
     }
 }
 
-fn is_done(status: Status) -> bool {
-    if let Status::Done = status {
-        true
-    } else {
-        false
+// Whether an answer has values: that of a call that is done, or refused for an entry of a list.
+fn has_values(status: Status) -> bool {
+    match status {
+        Status::Going => false,
+        Status::Done => true,
+        Status::OutOfRange => true,
+        Status::Alignment => true,
+        Status::DataTooLarge => false,
+        Status::NotAligned => false,
+        Status::CrossesPageBoundary => false,
+        Status::AddressSpan => false,
+        Status::FieldTooWide => false,
+        Status::EraseErrorBitSet => false,
+        Status::ProgrammingErrorBitSet => false,
+        Status::RepliesEnded => false,
+        Status::LogFull => false,
+        Status::LentLengthChanged => false,
+        Status::RepeatedSector => true,
+        Status::ListTooLong => false,
     }
 }
 
-// A reply, where the call is done: what its value is made of.
+// A reply, where the answer has values: what its value is made of.
 pub fn kept(answer: Status, reply: u32) -> u32 {
-    if is_done(answer) { reply } else { 0 }
+    if has_values(answer) { reply } else { 0 }
 }
 
-// What a call gives, where it is done.
+// What a call gives, where its answer has values.
 pub fn given(answer: Status, gives: Gives) -> Gives {
-    if is_done(answer) {
+    if has_values(answer) {
         gives
     } else {
         Gives::Nothing
     }
 }
 
-// The one value that a call gives once it is done: a register's byte or the SLCR clock word. 0 where it is
-// not done, and where it gives nothing or an id.
+// The one value of an answer: a register's byte, the SLCR clock word, or the place of an entry of a list. 0
+// where it has none, and where it has more, as an id.
 pub fn value(s: Stepped) -> u32 {
     let op = s.op;
     let job = op.job;
@@ -65,6 +79,7 @@ pub fn value(s: Stepped) -> u32 {
         Gives::Id => 0,
         Gives::LongId => 0,
         Gives::Clock => low_level.clock,
+        Gives::Place(at) => at as u32,
     }
 }
 

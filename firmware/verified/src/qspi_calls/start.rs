@@ -3,6 +3,8 @@
 //! the Rust's, of `QspiLowLevel` and `QspiSpansionS25Fl256SIoMode`. `log`, `data` and `buffer` are the
 //! lengths of the memory that the steps will be lent.
 
+use crate::qspi_calls::sectors;
+use crate::qspi_operation;
 use crate::qspi_operation::Op;
 use crate::qspi_script;
 use crate::qspi_script::Gives;
@@ -13,6 +15,7 @@ use crate::qspi_script::Place;
 use crate::qspi_script::Purpose;
 use crate::qspi_script::Reading;
 use crate::qspi_script::Script;
+use crate::qspi_script::Sequel;
 use crate::qspi_script::Stage;
 use crate::qspi_script::Status;
 use crate::qspi_script::Turned;
@@ -20,7 +23,6 @@ use crate::qspi_script::Wanted;
 use crate::qspi_transfer;
 use crate::qspi_transfer::Phase;
 use crate::qspi_transfer::low_level::Sequence;
-use crate::zedboard_bsp::qspi_spansion::SECTOR_SIZE;
 use crate::zedboard_bsp::qspi_spansion::limits;
 use crate::zynq7000_hal;
 use crate::zynq7000_hal::qspi::BaudRateConfig;
@@ -67,7 +69,7 @@ fn plain(gives: Gives) -> Script {
         after_clear: Stage::End,
         after_disable: Status::Done,
         erasing: false,
-        paging: false,
+        sequel: Sequel::Once,
         purpose: Purpose::Answer,
         gives,
     }
@@ -165,7 +167,7 @@ fn enabled(stage: Stage) -> Script {
         after_clear: Stage::End,
         after_disable: Status::Done,
         erasing: false,
-        paging: false,
+        sequel: Sequel::Once,
         purpose: Purpose::Answer,
         gives: Gives::Nothing,
     }
@@ -197,7 +199,7 @@ fn updating(after_clear: Stage, purpose: Purpose, wanted: Wanted, log: usize) ->
         after_clear,
         after_disable: Status::Done,
         erasing: false,
-        paging: false,
+        sequel: Sequel::Once,
         purpose,
         gives: Gives::Nothing,
     };
@@ -272,29 +274,24 @@ pub fn set_write_protection(protection: u8, log: usize) -> Op {
     }
 }
 
-// Write enable, the work, the status until it is clean; on error clear status and write disable.
-fn working(
-    stage: Stage,
-    erasing: bool,
-    paging: bool,
-    failure: Status,
-    addr: u32,
-    data: usize,
-    log: usize,
-) -> Job {
-    let lent = Lent {
-        data,
-        buffer: 0,
-        log,
-    };
-    let script = Script {
+// A script of write enable, the work, and its status until it is settled.
+fn works(stage: Stage, erasing: bool, sequel: Sequel, failure: Status, gives: Gives) -> Script {
+    Script {
         after_enable: stage,
         after_clear: Stage::Disable,
         after_disable: failure,
         erasing,
-        paging,
+        sequel,
         purpose: Purpose::Answer,
-        gives: Gives::Nothing,
+        gives,
+    }
+}
+
+fn working(script: Script, addr: u32, data: usize, log: usize) -> Job {
+    let lent = Lent {
+        data,
+        buffer: 0,
+        log,
     };
     Job {
         lent,
@@ -306,41 +303,67 @@ fn working(
     }
 }
 
+// Sector erases: one of them, or those of a list.
+fn erasing(sequel: Sequel, gives: Gives) -> Script {
+    works(Stage::Erase, true, sequel, Status::EraseErrorBitSet, gives)
+}
+
 pub fn erase_sector(addr: u32, log: usize) -> Op {
-    let job = working(
-        Stage::Erase,
-        true,
-        false,
-        Status::EraseErrorBitSet,
-        addr,
-        0,
-        log,
-    );
-    if limits::out_of_range(addr, SECTOR_SIZE) {
-        return over(job, Status::OutOfRange);
-    }
-    if limits::starts_sector(addr) {
+    let job = working(erasing(Sequel::Once, Gives::Nothing), addr, 0, log);
+    let status = sectors::sector_status(addr);
+    if qspi_operation::is_going(status) {
         going(job, place(Stage::Enable, 0, 0, 0))
     } else {
-        over(job, Status::Alignment)
+        over(job, status)
     }
 }
 
-// Page programs: one of them, or the chunks of `write_pages`.
-fn programming(paging: bool, addr: u32, data: usize, log: usize) -> Job {
-    working(
-        Stage::Program,
-        false,
-        paging,
-        Status::ProgrammingErrorBitSet,
-        addr,
-        data,
-        log,
+// A list of so many sectors.
+fn listing(gives: Gives, count: usize, log: usize) -> Job {
+    working(erasing(Sequel::Sectors, gives), 0, count, log)
+}
+
+// 33, then 1 and 2 at the first place that meets either, then 32: on all entries, before any access. Its
+// steps are lent the list as data, as `sectors::numbered` has it, a byte an entry. What a driver is lent
+// can change between two steps: qspi_driver keeps a copy, and its steps are lent that one.
+pub fn erase_sectors(list: &[u32], log: usize) -> Op {
+    let count = list.len();
+    if limits::list_too_long(count) {
+        return over(listing(Gives::Nothing, count, log), Status::ListTooLong);
+    }
+    let bad = sectors::first_refused(list);
+    if bad < count {
+        let status = sectors::sector_status(list[bad]);
+        return over(listing(Gives::Place(bad as u8), count, log), status);
+    }
+    let again = sectors::first_repeat(list);
+    if again < count {
+        return over(
+            listing(Gives::Place(again as u8), count, log),
+            Status::RepeatedSector,
+        );
+    }
+    let job = listing(Gives::Nothing, count, log);
+    opened(
+        job,
+        qspi_script::next_sector(job, place(Stage::Enable, 0, 0, 0)),
     )
 }
 
+// Page programs: one of them, or the chunks of `write_pages`.
+fn programming(sequel: Sequel, addr: u32, data: usize, log: usize) -> Job {
+    let script = works(
+        Stage::Program,
+        false,
+        sequel,
+        Status::ProgrammingErrorBitSet,
+        Gives::Nothing,
+    );
+    working(script, addr, data, log)
+}
+
 pub fn program(addr: u32, data: usize, log: usize) -> Op {
-    let job = programming(false, addr, data, log);
+    let job = programming(Sequel::Once, addr, data, log);
     if limits::out_of_range(addr, data) {
         return over(job, Status::OutOfRange);
     }
@@ -373,7 +396,7 @@ fn opened(job: Job, turned: Turned) -> Op {
 
 // 1 on the whole length, before any chunk; then each chunk when its turn comes.
 pub fn write_pages(addr: u32, data: usize, log: usize) -> Op {
-    let job = programming(true, addr, data, log);
+    let job = programming(Sequel::Pages, addr, data, log);
     if limits::out_of_range(addr, data) {
         return over(job, Status::OutOfRange);
     }

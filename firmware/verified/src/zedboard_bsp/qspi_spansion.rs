@@ -20,6 +20,8 @@ pub const RECOMMENDED_PROGRAM_PAGE_SIZE: usize = 128;
 pub const PAGE_SIZE: usize = 0x100;
 
 pub const SECTOR_SIZE: usize = 0x10000;
+// So many sectors are erased by one call at most.
+pub const LONGEST_LIST: usize = 256;
 // The largest end that is accepted, the Rust's `u24::MAX`: one below the end of the array
 // (docs/DIFFERENCES.md).
 pub const LAST_END: usize = 0xFF_FFFF;

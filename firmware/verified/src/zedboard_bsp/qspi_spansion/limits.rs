@@ -4,6 +4,7 @@
 
 use crate::zedboard_bsp::qspi_spansion::ADDRESS_SPAN;
 use crate::zedboard_bsp::qspi_spansion::LAST_END;
+use crate::zedboard_bsp::qspi_spansion::LONGEST_LIST;
 use crate::zedboard_bsp::qspi_spansion::MAX_DATA_BYTES_PER_WRITE;
 use crate::zedboard_bsp::qspi_spansion::PAGE_SIZE;
 use crate::zedboard_bsp::qspi_spansion::RECOMMENDED_PROGRAM_PAGE_SIZE;
@@ -21,6 +22,21 @@ pub fn out_of_range(addr: u32, length: usize) -> bool {
 // What rule 2 asks for.
 pub fn starts_sector(addr: u32) -> bool {
     addr % SECTOR_SIZE as u32 == 0
+}
+
+// The byte that stands for a sector in a list: its number, since a sector in range begins below 2^24.
+pub fn sector_number(addr: u32) -> u8 {
+    (addr / SECTOR_SIZE as u32 % 256) as u8
+}
+
+// Where the sector of a number begins.
+pub fn sector_start(number: u8) -> u32 {
+    number as u32 * SECTOR_SIZE as u32
+}
+
+// 33: more sectors than one call erases.
+pub fn list_too_long(length: usize) -> bool {
+    LONGEST_LIST < length
 }
 
 // Rule 3.
