@@ -51,7 +51,9 @@ fn driver(busy: bool) -> QspiSpansionS25Fl256SIoMode {
         let state = State {
             op: start::write_enable(LOG),
         };
-        return QspiSpansionS25Fl256SIoMode { state };
+        let idle = QspiSpansionS25Fl256SIoMode::idle();
+        let list = idle.list;
+        return QspiSpansionS25Fl256SIoMode { state, list };
     }
     QspiSpansionS25Fl256SIoMode::idle()
 }

@@ -3,3 +3,4 @@ pub mod Again
 pub mod Clauses
 pub mod Known
 pub mod Branch
+pub mod Part

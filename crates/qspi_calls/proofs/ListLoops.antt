@@ -136,9 +136,9 @@ module _ (l : List ℕ) (at : ℕ) (xs : List ℕ) (h : at < 256) where
   pub writes : at < length l → Written l at xs → Written l (at + 1) (set xs at (sectorNumber (getD l at 0)))
   writes g w =
       let y : set xs at (sectorNumber (getD l at 0)) ≡ numbersIn at l ++ sectorNumber (getD l at 0) ∷ replicate (256 - (at + 1)) 0
-          = ap (λ (z : List ℕ). set z at (sectorNumber (getD l at 0))) (w ∙ ap (λ (z : List ℕ). numbersIn at l ++ z) rest)
-          ∙ ap (λ (k : ℕ). set (numbersIn at l ++ 0 ∷ replicate (256 - (at + 1)) 0) k (sectorNumber (getD l at 0))) (sym (length-in at l))
-          ∙ set-append-seam (numbersIn at l) 0 (replicate (256 - (at + 1)) 0) (sectorNumber (getD l at 0)) in
+      = ap (λ (z : List ℕ). set z at (sectorNumber (getD l at 0))) (w ∙ ap (λ (z : List ℕ). numbersIn at l ++ z) rest)
+      ∙ ap (λ (k : ℕ). set (numbersIn at l ++ 0 ∷ replicate (256 - (at + 1)) 0) k (sectorNumber (getD l at 0))) (sym (length-in at l))
+      ∙ set-append-seam (numbersIn at l) 0 (replicate (256 - (at + 1)) 0) (sectorNumber (getD l at 0)) in
       y ∙ sym (append-snoc (numbersIn at l) (sectorNumber (getD l at 0)) (replicate (256 - (at + 1)) 0)) ∙ next
     where
       next : numbersIn at l ++ (sectorNumber (getD l at 0) ∷ []) ++ replicate (256 - (at + 1)) 0 ≡ numbersIn (at + 1) l ++ replicate (256 - (at + 1)) 0

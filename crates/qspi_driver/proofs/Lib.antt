@@ -1,10 +1,12 @@
+pub mod SectorLists
 pub mod Promised
 pub mod Types
 pub mod ThinStart
 pub mod ThinStep
+pub mod ThinErase
 pub mod ThinDue
 pub mod ThinAnswer
 pub mod Driving
-pub mod DriveWalk
+pub mod FinishWalk
 pub mod Saving
 pub mod DriverLaws

@@ -14,6 +14,8 @@ use Rattle.qspi_calls.specs.Begins.{BeginsWith}
 use Rattle.qspi_calls.specs.Calls.{writePages}
 use Rattle.qspi_calls.specs.Starts.{writePagesOf}
 use Rattle.power_cut.proofs.Promised.{promised, saved}
+use Rattle.qspi_operation.specs.Step.{erasesList}
+use Rattle.qspi_driver.proofs.SectorLists.{save-erases-none}
 use Rattle.qspi_driver.specs.declared.Driven.{Driven}
 use Rattle.qspi_driver.specs.Driver.{Driver, Drive, drivenIf, drivenOf}
 use Rattle.qspi_driver.specs.Saved.{Saves, Untouched}
@@ -23,9 +25,9 @@ module _ (a : ℕ) (bytes rs log : List ℕ) (d : Driver) {o : Op} (started : (o
   abbrev run : Run
   run = runOf o bytes rs [] log
 
-  -- how the test for another call came out
-  decided : {b : Bool} → isGoing (d .state .op .status) ≡ b → drivenOf d o bytes rs [] log ≡ drivenIf b d run [] log
-  decided g = ap (λ (b : Bool). drivenIf b d run [] log) g
+  -- how the test for another call came out; a save erases no list
+  decided : {b : Bool} → isGoing (d .state .op .status) ≡ b → drivenOf d o bytes rs [] log ≡ drivenIf b false d run [] log
+  decided {b} g = ap (λ (y : Bool). drivenIf y (erasesList o) d run [] log) g ∙ ap (λ (y : Bool). drivenIf b y d run [] log) (ap erasesList (started .0) ∙ save-erases-none a (length bytes) (length log))
 
   pub saves : ((i : ℕ) → getD bytes i 0 < 256) → isGoing (d .state .op .status) ≡ false → Saves a bytes rs log r log₁
   saves octets g =

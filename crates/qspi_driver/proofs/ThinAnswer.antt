@@ -21,11 +21,11 @@ use denote.Ref.{ShrRef}
 use denote.Steps.{looks, shuts, owned, peeks, heard}
 use denote.Struct.Steps.{spelt}
 use denote.Triple.Call.{calls-from}
-use Rattle.hand_walks.proofs.Known.{Known, Holder}
+use Rattle.hand_walks.proofs.Known.{Known, Duo}
 
-module _ {M : Type 1} {𝓤 : URA M} {H : Heap 𝓤} {A : Atoms 𝓤} (S N : Known 𝓤 H A) (D : Holder 𝓤 H A S) where
+module _ {M : Type 1} {𝓤 : URA M} {H : Heap 𝓤} {A : Atoms 𝓤} (S L N : Known 𝓤 H A) (D : Duo 𝓤 H A S L) where
   abbrev τD : Ty
-  τD = tyStruct (D .name) (tcons (S .ty) tnil)
+  τD = tyStruct (D .name) (tcons (S .ty) (tcons (L .ty) tnil))
 
   -- the method's code, over the types and the callee's name
   abbrev pub method : Name → Fn
@@ -39,10 +39,13 @@ module _ {M : Type 1} {𝓤 : URA M} {H : Heap 𝓤} {A : Atoms 𝓤} (S N : Kno
 
   module _ (W : Given 𝓤 H A) (f : Name) (κ₀ : Lft) (q₀ : Share) (b o : ℕ) (γ : GName) (h : D .row .Denot) where
     abbrev x : S .row .Denot
-    x = D .get h
+    x = D .first h
 
-    abbrev valD : S .row .Denot → Val
-    valD y = vstruct (vcons (S .val y) vnil)
+    abbrev holding : S .row .Denot → L .row .Denot → Val
+    holding y z = vstruct (vcons (S .val y) (vcons (L .val z) vnil))
+
+    abbrev valD : D .row .Denot → Val
+    valD y = holding (D .first y) (D .second y)
 
     -- what the method hands to its callee, and what it is called with
     abbrev pub Handed : SProp 𝓤
@@ -72,13 +75,13 @@ module _ {M : Type 1} {𝓤 : URA M} {H : Heap 𝓤} {A : Atoms 𝓤} (S N : Kno
           alloc1 ! (λ l₀. alloc1 ! (λ l₁. alloc1 ! (λ l₂. alloc0 ! $ params1 ! $ pass1 ! (init ! 2 refl (tt, tt)) $ pass0 ! $
           -- the borrow is looked into, and shut
           move ! (7 ∷ []) $ fsplit ! $ fsplit3 ! $ drop ! $ move ! (9 ∷ []) $ split ! $ move ! (3 ∷ 0 ∷ []) $
-          looks ! tt (D .row) (Is (D .row)) (shows 𝓤 H A (D .row)) (λ y. valD (D .get y) ∷ []) (D .tells) (D .copy) h b o (λ q′ vs. spelt ! (D .row) (Is (D .row)) (shows 𝓤 H A (D .row)) (λ y. valD (D .get y) ∷ []) (D .tells) q′ h vs b o $
-          use1 W (‵ (fat q′ τD b o (valD x))) (D .opened q′ b o (valD x)) $ move ! (1 ∷ []) $ peeks ! (D .row) (Is (D .row)) (shows 𝓤 H A (D .row)) h (valD x ∷ []) (λ g.
+          looks ! tt (D .row) (Is (D .row)) (shows 𝓤 H A (D .row)) (λ y. valD y ∷ []) (D .tells) (D .copy) h b o (λ q′ vs. spelt ! (D .row) (Is (D .row)) (shows 𝓤 H A (D .row)) (λ y. valD y ∷ []) (D .tells) q′ h vs b o $
+          use1 W (‵ (fat q′ τD b o (valD h))) (D .opened q′ b o (valD h)) $ move ! (1 ∷ []) $ peeks ! (D .row) (Is (D .row)) (shows 𝓤 H A (D .row)) h (valD h ∷ []) (λ g.
           -- [own; cell; obor; shr; others; res; rest; _2; ~2; _1; ~1; _0; ~0]
-          assigns ! (of-opd ! (load ! (from ! (hop ! (look ! 9 refl) (fld ! refl (stop !)))) (look-in ! 1 (sub ! 0 refl (whole !))))) (from ! (stop !)) (init ! 7 refl (S .typed x _ (D .owed h _ g))) $
-          move ! (1 ∷ []) $ use1 W (‵ (cellAt q′ (D .row .mir) (valD x ∷ []) b o)) (D .shut q′ b o (valD x)) $ shuts ! tt (D .row) q′ h (valD x ∷ []) b o $
+          assigns ! (of-opd ! (load ! (from ! (hop ! (look ! 9 refl) (fld ! refl (stop !)))) (look-in ! 1 (sub ! 0 refl (whole !))))) (from ! (stop !)) (init ! 7 refl (S .typed x _ (D .owed-first h _ g))) $
+          move ! (1 ∷ []) $ use1 W (‵ (cellAt q′ (D .row .mir) (valD h ∷ []) b o)) (D .shut q′ b o (valD h)) $ shuts ! tt (D .row) q′ h (valD h ∷ []) b o $
           -- the call
-          owned ! (S .row) (Is (S .row)) (S .makes) x _ (D .owed h _ g) $ move ! (0 ∷ 5 ∷ []) $ fjoin ! $ move ! (3 ∷ 0 ∷ []) $ join ! $
+          owned ! (S .row) (Is (S .row)) (S .makes) x _ (D .owed-first h _ g) $ move ! (0 ∷ 5 ∷ []) $ fjoin ! $ move ! (3 ∷ 0 ∷ []) $ join ! $
           calls-from ! fm handed called-with Q met (and-then ! (load ! (from ! (stop !)) (look ! 4 refl)) (no-more !)) (λ w.
           use1 W (later (some (λ (r : N .row .Denot). ((‵ ftrue) ⊛ ‵ (N .row .own r (w ∷ []))) ⊛ raw (Ens r)))) (answers w) $ await ! tt $ pick ! (λ r. split ! $
           move ! (1 ∷ []) $ use1 W (raw (fact 𝓤 (Said r))) (hears r) $ heard ! (Said r) (λ e. split ! $ move ! (1 ∷ []) $

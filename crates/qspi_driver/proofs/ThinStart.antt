@@ -26,11 +26,11 @@ use denote.Ref.{MutRef}
 use denote.Steps.{only, opens, closes, owned, peeks, heard}
 use denote.Struct.Steps.{spelt}
 use denote.Triple.Call.{calls-from}
-use Rattle.hand_walks.proofs.Known.{Known, Holder, Pair}
+use Rattle.hand_walks.proofs.Known.{Known, Duo, Pair}
 
-module _ {M : Type 1} {𝓤 : URA M} {H : Heap 𝓤} {A : Atoms 𝓤} (S N : Known 𝓤 H A) (P : Known 𝓤 H A) (D : Holder 𝓤 H A S) (X : Pair 𝓤 H A S N) where
+module _ {M : Type 1} {𝓤 : URA M} {H : Heap 𝓤} {A : Atoms 𝓤} (S L N P : Known 𝓤 H A) (D : Duo 𝓤 H A S L) (X : Pair 𝓤 H A S N) where
   abbrev τD : Ty
-  τD = tyStruct (D .name) (tcons (S .ty) tnil)
+  τD = tyStruct (D .name) (tcons (S .ty) (tcons (L .ty) tnil))
 
   abbrev τX : Ty
   τX = tyStruct (X .name) (tcons (S .ty) (tcons (N .ty) tnil))
@@ -47,10 +47,13 @@ module _ {M : Type 1} {𝓤 : URA M} {H : Heap 𝓤} {A : Atoms 𝓤} (S N : Kno
 
   module _ (W : Given 𝓤 H A) (f : Name) (κ₀ : Lft) (q₀ : Share) (b o : ℕ) (γ : GName) (h : D .row .Denot) (op : P .row .Denot) where
     abbrev x : S .row .Denot
-    x = D .get h
+    x = D .first h
 
-    abbrev valD : S .row .Denot → Val
-    valD y = vstruct (vcons (S .val y) vnil)
+    abbrev holding : S .row .Denot → L .row .Denot → Val
+    holding y z = vstruct (vcons (S .val y) (vcons (L .val z) vnil))
+
+    abbrev valD : D .row .Denot → Val
+    valD y = holding (D .first y) (D .second y)
 
     -- what the method hands to its callee, and what it is called with
     abbrev pub Handed : SProp 𝓤
@@ -67,7 +70,7 @@ module _ {M : Type 1} {𝓤 : URA M} {H : Heap 𝓤} {A : Atoms 𝓤} (S N : Kno
     Entered = sep 𝓤 (sep 𝓤 (A .lft κ₀ q₀) (sem 𝓤 H A ftrue)) (sem 𝓤 H A (owns (MutRef (named 0) κ₀ (D .row) ∷ P .row ∷ []) (record { ptr = (b, o); name = γ; now = h }, (op, tt)) (vptr b o ∷ [], (P .val op ∷ [], tt))))
 
     abbrev pub Left : X .row .Denot → SProp 𝓤
-    Left r = ⋆ 𝓤 H A (‵ (fobs γ (D .row .coded .code (D .put (X .first r)))) ∷ ‵ (fbor κ₀ (Body (mem (D .row)) b o γ)) ∷ ‵ (flft κ₀ q₀) ∷ (‵ ftrue) ∷ [])
+    Left r = ⋆ 𝓤 H A (‵ (fobs γ (D .row .coded .code (D .put (X .first r) (D .second h)))) ∷ ‵ (fbor κ₀ (Body (mem (D .row)) b o γ)) ∷ ‵ (flft κ₀ q₀) ∷ (‵ ftrue) ∷ [])
 
     module _ (Q Post : Val → SProp 𝓤) (Ens : X .row .Denot → SProp 𝓤) (Said : X .row .Denot → Type 0)
         (answers : (w : Val) → ent 𝓤 (Q w) (H .⇛ (ex 𝓤 (λ (r : X .row .Denot). sep 𝓤 (sep 𝓤 (sem 𝓤 H A ftrue) (sem 𝓤 H A (X .row .own r (w ∷ [])))) (Ens r)))))
@@ -81,13 +84,13 @@ module _ {M : Type 1} {𝓤 : URA M} {H : Heap 𝓤} {A : Atoms 𝓤} (S N : Kno
           pass1 ! (init ! 4 refl (P .typed op _ is-op)) $ pass0 ! $
           -- the borrow is opened
           move ! (11 ∷ []) $ fsplit ! $ fsplit3 ! $ drop ! $ move ! (13 ∷ []) $ split ! $ move ! (2 ∷ 3 ∷ 0 ∷ []) $
-          opens ! tt (D .row) {h = h} b o (λ vs. spelt ! (D .row) (Is (D .row)) (shows 𝓤 H A (D .row)) (λ y. valD (D .get y) ∷ []) (D .tells) fullShare h vs b o $
-          use1 W (‵ (fat fullShare τD b o (valD x))) (D .opened fullShare b o (valD x)) $ move ! (1 ∷ []) $
-          peeks ! (D .row) (Is (D .row)) (shows 𝓤 H A (D .row)) h (valD x ∷ []) (λ g.
+          opens ! tt (D .row) {h = h} b o (λ vs. spelt ! (D .row) (Is (D .row)) (shows 𝓤 H A (D .row)) (λ y. valD y ∷ []) (D .tells) fullShare h vs b o $
+          use1 W (‵ (fat fullShare τD b o (valD h))) (D .opened fullShare b o (valD h)) $ move ! (1 ∷ []) $
+          peeks ! (D .row) (Is (D .row)) (shows 𝓤 H A (D .row)) h (valD h ∷ []) (λ g.
           -- [own; cell; obor; obs; auth; others; rest; _4; ~4; _3; ~3; _2; ~2; _1; ~1; _0; ~0]
-          assigns ! (of-opd ! (load ! (from ! (hop ! (look ! 13 refl) (fld ! refl (stop !)))) (look-in ! 1 (sub ! 0 refl (whole !))))) (from ! (stop !)) (init ! 9 refl (S .typed x _ (D .owed h _ g))) $
+          assigns ! (of-opd ! (load ! (from ! (hop ! (look ! 13 refl) (fld ! refl (stop !)))) (look-in ! 1 (sub ! 0 refl (whole !))))) (from ! (stop !)) (init ! 9 refl (S .typed x _ (D .owed-first h _ g))) $
           -- the call
-          owned ! (S .row) (Is (S .row)) (S .makes) x _ (D .owed h _ g) $ move ! (0 ∷ 7 ∷ []) $ fjoin ! $ move ! (6 ∷ 0 ∷ []) $ join ! $
+          owned ! (S .row) (Is (S .row)) (S .makes) x _ (D .owed-first h _ g) $ move ! (0 ∷ 7 ∷ []) $ fjoin ! $ move ! (6 ∷ 0 ∷ []) $ join ! $
           calls-from ! fm handed called-with Q met (and-then ! (load ! (from ! (stop !)) (look ! 8 refl)) (and-then ! (load ! (from ! (stop !)) (look ! 10 refl)) (no-more !))) (λ w.
           use1 W (later (some (λ (r : X .row .Denot). ((‵ ftrue) ⊛ ‵ (X .row .own r (w ∷ []))) ⊛ raw (Ens r)))) (answers w) $ await ! tt $ pick ! (λ r. split ! $
           move ! (1 ∷ []) $ use1 W (raw (fact 𝓤 (Said r))) (hears r) $ heard ! (Said r) (λ e. split ! $ move ! (1 ∷ []) $
@@ -98,9 +101,9 @@ module _ {M : Type 1} {𝓤 : URA M} {H : Heap 𝓤} {A : Atoms 𝓤} (S N : Kno
           assigns ! (of-opd ! (load ! (from ! (fld ! refl (stop !))) (look-in ! 6 (sub ! 1 refl (whole !))))) (from ! (stop !)) (init ! 14 refl (N .typed (X .second r) _ (X .owed-second r _ is))) $
           move ! (1 ∷ []) $ drop ! $
           -- the borrow is closed
-          owned ! (D .row) (Is (D .row)) (D .makes) (D .put (X .first r)) _ (D .owes (X .first r) (X .owed-first r _ is)) $ move ! (2 ∷ []) $
-          use1 W (‵ (cellAt fullShare (D .row .mir) (valD (X .first r) ∷ []) b o)) (D .shut fullShare b o (valD (X .first r))) $ move ! (0 ∷ 1 ∷ 3 ∷ 4 ∷ 5 ∷ []) $
-          closes ! tt (D .row) (D .put (X .first r)) (valD (X .first r) ∷ []) b o $
+          owned ! (D .row) (Is (D .row)) (D .makes) (D .put (X .first r) (D .second h)) _ (D .owes (X .first r) (D .second h) (X .owed-first r _ is) (D .owed-second h _ g)) $ move ! (2 ∷ []) $
+          use1 W (‵ (cellAt fullShare (D .row .mir) (holding (X .first r) (D .second h) ∷ []) b o)) (D .shut fullShare b o (holding (X .first r) (D .second h))) $ move ! (0 ∷ 1 ∷ 3 ∷ 4 ∷ 5 ∷ []) $
+          closes ! tt (D .row) (D .put (X .first r) (D .second h)) (holding (X .first r) (D .second h) ∷ []) b o $
           -- [obs; bor; tok; others; _4; ~4; _3; ~3; _2; ~2; _1; ~1; _0; ~0]
           returns ! (look ! 12 refl) $ forget ! 4 refl $ forget ! 6 refl $ forget ! 8 refl $ forget ! 10 refl $ forget ! 12 refl $
           move ! (12 ∷ 13 ∷ []) $ free1 ! $ move ! (10 ∷ 11 ∷ []) $ free1 ! $ move ! (8 ∷ 9 ∷ []) $ free1 ! $ move ! (6 ∷ 7 ∷ []) $ free1 ! $ move ! (4 ∷ 5 ∷ []) $

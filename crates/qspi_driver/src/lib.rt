@@ -1,16 +1,17 @@
 // The outer layer: one small driver state, lent by `&mut` to each start and step and updated. A method
-// takes it apart and calls the covered function of `state`; `drive` runs a whole call through the methods.
+// takes it apart and calls the covered function of `state`; `drive` runs a whole call through `step`.
 ghost use mathlib.Core.Path.{_≡_};
 ghost use mathlib.Core.Bool.{true, false};
 ghost use lib.ListN.{length};
 ghost use Rattle.qspi_operation.specs.Step.{isGoing, dueOf, logOf, bufferOf};
 ghost use Rattle.qspi_operation.specs.Follows.{DueFollows};
-ghost use Rattle.qspi_driver.specs.State.{begunOf, steppedOf, progressOf};
+ghost use Rattle.qspi_driver.specs.State.{begunOf, begunListOf, lentTo, steppedOf, progressOf};
 ghost use Rattle.qspi_driver.specs.Promise.{Started, Steps, AnswerFollows, Drives};
-ghost use Rattle.qspi_driver.specs.Driver.{idle, driverOf, drivenOf};
+ghost use Rattle.qspi_driver.specs.Driver.{idle, driverOf, finishedOf, drivenOf, listDrivenOf};
 ghost use Rattle.qspi_driver.specs.Saved.{Saves, Untouched};
 use crate::state::Answer;
 use crate::state::Progress;
+use crate::state::SectorList;
 use crate::state::State;
 use qspi_calls::start;
 use qspi_operation::Asked;
@@ -22,6 +23,7 @@ pub mod state;
 // The flash chip's driver in I/O mode, with the Rust's name.
 pub struct QspiSpansionS25Fl256SIoMode {
     pub state: State,
+    pub list: SectorList,
 }
 
 impl QspiSpansionS25Fl256SIoMode {
@@ -31,13 +33,15 @@ impl QspiSpansionS25Fl256SIoMode {
     {
         let op = start::read_page_read(0, 0, 0);
         let state = State { op };
-        QspiSpansionS25Fl256SIoMode { state }
+        let numbers = [0u8; 256];
+        let list = SectorList { numbers };
+        QspiSpansionS25Fl256SIoMode { state, list }
     }
 
     // Begins a call: `op` is what a function of `qspi_calls::start` gave. While the operation at hand has
-    // not ended the answer is `Busy`, and nothing is changed.
+    // not ended the answer is `Busy`, and of a list of sectors it is `ListMissing`: nothing is changed.
     pub fn start(&mut self, op: Op) -> Answer
-        ensures state { λ _. ⌜ now (self .exit) ≡ driverOf (begunOf (now (self .entry) .state) op .state) ⌝ }
+        ensures state { λ _. ⌜ now (self .exit) ≡ driverOf (begunOf (now (self .entry) .state) op .state) (now (self .entry) .list) ⌝ }
         ensures answer { λ r. ⌜ r ≡ begunOf (now (self .entry) .state) op .answer ⌝ }
         ensures begins { λ r. ⌜ Started (now (self .entry) .state .op) op r (now (self .exit) .state .op) ⌝ }
     {
@@ -47,13 +51,27 @@ impl QspiSpansionS25Fl256SIoMode {
         s.answer
     }
 
-    // The access that is due, without effect.
-    pub fn due(&self, data: &[u8]) -> Asked
-        ensures due { λ r. ⌜ r ≡ dueOf (now (self .entry) .state .op) (now («data» .entry)) ⌝ }
-        ensures follows { λ r. ⌜ DueFollows (now (self .entry) .state .op) (now («data» .entry)) r ⌝ }
+    // Begins the erase of a list of sectors, whose numbers are kept beside the operation: no step is lent
+    // the list again. While the operation at hand has not ended the answer is `Busy`, and nothing is changed.
+    pub fn erase_sectors(&mut self, list: &[u32], log: usize) -> Answer
+        ensures state { λ _. ⌜ now (self .exit) ≡ driverOf (begunListOf (now (self .entry) .state) (now (self .entry) .list) (now (list .entry)) log .state) (begunListOf (now (self .entry) .state) (now (self .entry) .list) (now (list .entry)) log .list) ⌝ }
+        ensures answer { λ r. ⌜ r ≡ begunListOf (now (self .entry) .state) (now (self .entry) .list) (now (list .entry)) log .answer ⌝ }
     {
         let state = self.state;
-        state::due(state, data)
+        let kept = self.list;
+        let s = state::begin_list(state, kept, list, log);
+        self.state = s.state;
+        self.list = s.list;
+        s.answer
+    }
+
+    // The access that is due, without effect.
+    pub fn due(&self, data: &[u8]) -> Asked
+        ensures due { λ r. ⌜ r ≡ dueOf (now (self .entry) .state .op) (lentTo (now (self .entry) .state .op) (now (self .entry) .list .numbers) (now («data» .entry))) ⌝ }
+        ensures follows { λ r. ⌜ DueFollows (now (self .entry) .state .op) (lentTo (now (self .entry) .state .op) (now (self .entry) .list .numbers) (now («data» .entry))) r ⌝ }
+    {
+        let state = self.state;
+        state::due(state, &self.list.numbers, data)
     }
 
     // The answer so far.
@@ -66,16 +84,17 @@ impl QspiSpansionS25Fl256SIoMode {
     }
 
     // A step of the operation at hand: it makes and logs one access, or answers 23, 24 or 25, or repeats the
-    // answer of one that has ended. A call without data or without a read buffer is lent an empty one.
+    // answer of one that has ended. A call without data or without a read buffer is lent an empty one; a list
+    // of sectors is lent the driver's own copy, and with data beside it the answer is 25.
     pub fn step(&mut self, data: &[u8], buffer: &mut [u8], log: &mut [u32], reply: Reply) -> Answer
-        ensures state { λ _. ⌜ now (self .exit) ≡ driverOf (steppedOf (now (self .entry) .state) (now («data» .entry)) (length (now (buffer .entry))) (length (now (log .entry))) reply .state) ⌝ }
-        ensures answer { λ r. ⌜ r ≡ steppedOf (now (self .entry) .state) (now («data» .entry)) (length (now (buffer .entry))) (length (now (log .entry))) reply .answer ⌝ }
-        ensures stored { λ _. ⌜ now (buffer .exit) ≡ bufferOf (now (self .entry) .state .op) (now («data» .entry)) (now (buffer .entry)) (length (now (log .entry))) reply ⌝ }
-        ensures logged { λ _. ⌜ now (log .exit) ≡ logOf (now (self .entry) .state .op) (now («data» .entry)) (length (now (buffer .entry))) (now (log .entry)) reply ⌝ }
-        ensures follows { λ r. ⌜ Steps (now (self .entry) .state .op) (now («data» .entry)) (now (buffer .entry)) (now (log .entry)) reply r (now (self .exit) .state .op) (now (buffer .exit)) (now (log .exit)) ⌝ }
+        ensures state { λ _. ⌜ now (self .exit) ≡ driverOf (steppedOf (now (self .entry) .state) (lentTo (now (self .entry) .state .op) (now (self .entry) .list .numbers) (now («data» .entry))) (length (now (buffer .entry))) (length (now (log .entry))) reply .state) (now (self .entry) .list) ⌝ }
+        ensures answer { λ r. ⌜ r ≡ steppedOf (now (self .entry) .state) (lentTo (now (self .entry) .state .op) (now (self .entry) .list .numbers) (now («data» .entry))) (length (now (buffer .entry))) (length (now (log .entry))) reply .answer ⌝ }
+        ensures stored { λ _. ⌜ now (buffer .exit) ≡ bufferOf (now (self .entry) .state .op) (lentTo (now (self .entry) .state .op) (now (self .entry) .list .numbers) (now («data» .entry))) (now (buffer .entry)) (length (now (log .entry))) reply ⌝ }
+        ensures logged { λ _. ⌜ now (log .exit) ≡ logOf (now (self .entry) .state .op) (lentTo (now (self .entry) .state .op) (now (self .entry) .list .numbers) (now («data» .entry))) (length (now (buffer .entry))) (now (log .entry)) reply ⌝ }
+        ensures follows { λ r. ⌜ Steps (now (self .entry) .state .op) (lentTo (now (self .entry) .state .op) (now (self .entry) .list .numbers) (now («data» .entry))) (now (buffer .entry)) (now (log .entry)) reply r (now (self .exit) .state .op) (now (buffer .exit)) (now (log .exit)) ⌝ }
     {
         let state = self.state;
-        let s = state::step(state, data, buffer, log, reply);
+        let s = state::step(state, &self.list.numbers, data, buffer, log, reply);
         self.state = s.state;
         s.answer
     }
@@ -87,7 +106,34 @@ pub struct Driven {
     pub answer: Answer,
 }
 
-// A whole call through the methods: `op` is started and stepped to its end, the replies in order. A caller
+// The rest of a call that answered `answer` so far, through the lent driver: it is stepped to its end, the
+// replies in order.
+fn finish(
+    driver: QspiSpansionS25Fl256SIoMode,
+    begun: Answer,
+    data: &[u8],
+    buffer: &mut [u8],
+    log: &mut [u32],
+    replies: &[u32],
+) -> Driven
+    ensures driver { λ r. ⌜ r .driver ≡ finishedOf driver begun (now («data» .entry)) (now (replies .entry)) (now (buffer .entry)) (now (log .entry)) .driver ⌝ }
+    ensures answer { λ r. ⌜ r .answer ≡ finishedOf driver begun (now («data» .entry)) (now (replies .entry)) (now (buffer .entry)) (now (log .entry)) .answer ⌝ }
+    ensures stored { λ _. ⌜ now (buffer .exit) ≡ finishedOf driver begun (now («data» .entry)) (now (replies .entry)) (now (buffer .entry)) (now (log .entry)) .buffer ⌝ }
+    ensures logged { λ _. ⌜ now (log .exit) ≡ finishedOf driver begun (now («data» .entry)) (now (replies .entry)) (now (buffer .entry)) (now (log .entry)) .log ⌝ }
+{
+    let mut lent = driver;
+    let mut answer = begun;
+    while state::is_under_way(answer) {
+        let reply = state::next_reply(lent.state, replies);
+        answer = lent.step(data, buffer, log, reply);
+    }
+    Driven {
+        driver: lent,
+        answer,
+    }
+}
+
+// A whole call: `op` is begun and stepped to its end through the lent driver, the replies in order. A caller
 // that has the driver by value needs no proof by hand.
 pub fn drive(
     driver: QspiSpansionS25Fl256SIoMode,
@@ -103,19 +149,16 @@ pub fn drive(
     ensures logged { λ _. ⌜ now (log .exit) ≡ drivenOf driver op (now («data» .entry)) (now (replies .entry)) (now (buffer .entry)) (now (log .entry)) .log ⌝ }
     ensures drives { λ r. ⌜ Drives driver op (now («data» .entry)) (now (buffer .entry)) (now (log .entry)) (now (replies .entry)) r (now (buffer .exit)) (now (log .exit)) ⌝ }
 {
-    let mut lent = driver;
-    let mut answer = lent.start(op);
-    while state::is_under_way(answer) {
-        let reply = state::next_reply(lent.state, replies);
-        answer = lent.step(data, buffer, log, reply);
-    }
-    Driven {
-        driver: lent,
-        answer,
-    }
+    let state = driver.state;
+    let list = driver.list;
+    let acted = state::begin(state, op);
+    let next = acted.state;
+    let answer = acted.answer;
+    let begun = QspiSpansionS25Fl256SIoMode { state: next, list };
+    finish(begun, answer, data, buffer, log, replies)
 }
 
-// A save through the methods. Its contract states what a power cut can leave in the flash.
+// A save through the lent driver. Its contract states what a power cut can leave in the flash.
 pub fn write_pages(
     driver: QspiSpansionS25Fl256SIoMode,
     addr: u32,
@@ -129,4 +172,30 @@ pub fn write_pages(
     let op = start::write_pages(addr, data.len(), log.len());
     let mut buffer = [0u8; 0];
     drive(driver, op, data, &mut buffer, log, replies)
+}
+
+// A list of sectors, erased from the first to the last through the lent driver. The driver keeps the list.
+pub fn erase_sectors(
+    driver: QspiSpansionS25Fl256SIoMode,
+    list: &[u32],
+    replies: &[u32],
+    log: &mut [u32],
+) -> Driven
+    ensures driver { λ r. ⌜ r .driver ≡ listDrivenOf driver (now (list .entry)) (now (replies .entry)) (now (log .entry)) .driver ⌝ }
+    ensures answer { λ r. ⌜ r .answer ≡ listDrivenOf driver (now (list .entry)) (now (replies .entry)) (now (log .entry)) .answer ⌝ }
+    ensures logged { λ _. ⌜ now (log .exit) ≡ listDrivenOf driver (now (list .entry)) (now (replies .entry)) (now (log .entry)) .log ⌝ }
+{
+    let state = driver.state;
+    let kept = driver.list;
+    let acted = state::begin_list(state, kept, list, log.len());
+    let next = acted.state;
+    let copied = acted.list;
+    let answer = acted.answer;
+    let begun = QspiSpansionS25Fl256SIoMode {
+        state: next,
+        list: copied,
+    };
+    let data = [0u8; 0];
+    let mut buffer = [0u8; 0];
+    finish(begun, answer, &data, &mut buffer, log, replies)
 }

@@ -4,13 +4,16 @@ ghost use mathlib.Core.Path.{_≡_};
 ghost use lib.ListN.{length};
 ghost use Rattle.zedboard_bsp.specs.Words.{topByte};
 ghost use Rattle.zedboard_bsp.specs.DeviceId.{baseBytes, extendedBytes, replyBytes, longReplyBytes};
+ghost use Prim.Native.Nat.{ℕ};
 ghost use mathlib.Core.List.{[], _∷_};
 ghost use Rattle.qspi_script.specs.declared.Gives.the-variants as gives;
 ghost use Rattle.qspi_operation.specs.Step.{dueOf, logOf, bufferOf, replyOf};
 ghost use Rattle.qspi_operation.specs.Follows.{DueFollows};
-ghost use Rattle.qspi_driver.specs.State.{numberIn, begunOf, actedBy, steppedOf, progressOf, valuesGiven, isUnderWay};
+ghost use Rattle.qspi_driver.specs.State.{numberIn, begunOf, begunListOf, lentTo, actedBy, steppedOf, progressOf, valuesGiven, placeGiven, isUnderWay};
 ghost use Rattle.qspi_driver.specs.Promise.{Started, Steps, AnswerFollows};
 use qspi_calls::run;
+use qspi_calls::sectors;
+use qspi_calls::start;
 use qspi_operation::Asked;
 use qspi_operation::Op;
 use qspi_operation::Reply;
@@ -27,12 +30,19 @@ pub struct State {
     pub op: Op,
 }
 
+// The list of sectors as it was lent at the start of `erase_sectors`, a byte a sector: its number.
+pub struct SectorList {
+    pub numbers: [u8; 256],
+}
+
 // What a start or a step answers.
 pub enum Answer {
     // The status of the operation at hand.
     Given(Status),
     // A start while the operation at hand has not ended: nothing is changed.
     Busy,
+    // A start of a list of sectors without its list: nothing is changed; `erase_sectors` begins one.
+    ListMissing,
 }
 
 impl Answer {
@@ -43,6 +53,7 @@ impl Answer {
         match self {
             Answer::Given(status) => status.number(),
             Answer::Busy => Number::Without,
+            Answer::ListMissing => Number::Without,
         }
     }
 }
@@ -53,14 +64,21 @@ pub struct Acted {
     pub answer: Answer,
 }
 
-// The answer so far: status, used counts (log words, replies), bytes programmed, and of a call that is
-// done what it gives: the SLCR clock word, and the last three replies, of which a register's byte or an id
-// is made.
+// The same after a start of a list, with the list that is kept.
+pub struct ListActed {
+    pub state: State,
+    pub list: SectorList,
+    pub answer: Answer,
+}
+
+// The answer so far: status, used counts (log words, replies), what it counts (bytes programmed by
+// `write_pages`, sectors finished of a list), and of an answer with values what it gives: the SLCR clock
+// word, the place of an entry, and the last three replies, of which a register's byte or an id is made.
 pub struct Progress {
     pub status: Status,
     pub used: usize,
     pub replies: usize,
-    pub programmed: usize,
+    pub counted: usize,
     pub gives: Gives,
     pub clock: u32,
     pub older: u32,
@@ -100,34 +118,104 @@ impl Progress {
     {
         self.clock
     }
+
+    // The place, from 0, of the entry that a list of sectors was refused for; 0 for any other answer.
+    pub fn place(self) -> u8
+        ensures place { λ r. ⌜ r ≡ placeGiven (self .gives) ⌝ }
+        ensures value { λ r. ⌜ ((n : ℕ) → self .gives ≡ gives.Place n → valuesGiven self ≡ r ∷ []) ⌝ }
+    {
+        let gives = self.gives;
+        match gives {
+            Gives::Nothing => 0,
+            Gives::Register => 0,
+            Gives::Id => 0,
+            Gives::LongId => 0,
+            Gives::Clock => 0,
+            Gives::Place(at) => at,
+        }
+    }
 }
 
-// Begins a call, unless one is under way.
+// Begins a call, unless one is under way or the call is of a list, which `begin_list` begins.
 pub fn begin(state: State, op: Op) -> Acted
     ensures acted { λ r. ⌜ (r ≡ begunOf state op) × Started (state .op) op (r .answer) (r .state .op) ⌝ }
 {
     let at_hand = state.op;
     let status = at_hand.status;
     if qspi_operation::is_going(status) {
-        Acted {
+        return Acted {
             state,
             answer: Answer::Busy,
-        }
-    } else {
-        let status = op.status;
-        let next = State { op };
-        Acted {
-            state: next,
-            answer: Answer::Given(status),
-        }
+        };
+    }
+    if qspi_operation::erases_list(op) {
+        return Acted {
+            state,
+            answer: Answer::ListMissing,
+        };
+    }
+    let status = op.status;
+    let next = State { op };
+    Acted {
+        state: next,
+        answer: Answer::Given(status),
     }
 }
 
-// The access that is due.
-pub fn due(state: State, data: &[u8]) -> Asked
-    ensures due { λ r. ⌜ (r ≡ dueOf (state .op) (now («data» .entry))) × DueFollows (state .op) (now («data» .entry)) r ⌝ }
+// Begins a list of sectors, unless a call is under way: its numbers are kept beside the operation.
+pub fn begin_list(state: State, kept: SectorList, list: &[u32], log: usize) -> ListActed
+    ensures acted { λ r. ⌜ r ≡ begunListOf state kept (now (list .entry)) log ⌝ }
 {
-    qspi_operation::due(state.op, data)
+    let at_hand = state.op;
+    let status = at_hand.status;
+    if qspi_operation::is_going(status) {
+        let answer = Answer::Busy;
+        return ListActed {
+            state,
+            list: kept,
+            answer,
+        };
+    }
+    let begun = start::erase_sectors(list, log);
+    let status = begun.status;
+    let next = State { op: begun };
+    let numbers = sectors::numbered(list);
+    let copied = SectorList { numbers };
+    ListActed {
+        state: next,
+        list: copied,
+        answer: Answer::Given(status),
+    }
+}
+
+// What the operation at hand is lent: a list of sectors its own copy, as far as it is long, and no other
+// data with it; any other operation the caller's data.
+fn lent_to<'a>(state: State, list: &'a [u8], data: &'a [u8]) -> &'a [u8]
+    ensures lent { λ r. ⌜ now r ≡ lentTo (state .op) (now (list .entry)) (now («data» .entry)) ⌝ }
+{
+    let at_hand = state.op;
+    if qspi_operation::erases_list(at_hand) {
+        if 0 < data.len() {
+            let none: usize = 0;
+            return &list[..none];
+        }
+        let job = at_hand.job;
+        let lent = job.lent;
+        let n = lent.data;
+        if n < list.len() {
+            return &list[..n];
+        }
+        return list;
+    }
+    data
+}
+
+// The access that is due.
+pub fn due<'a>(state: State, list: &'a [u8], data: &'a [u8]) -> Asked
+    ensures due { λ r. ⌜ (r ≡ dueOf (state .op) (lentTo (state .op) (now (list .entry)) (now («data» .entry)))) × DueFollows (state .op) (lentTo (state .op) (now (list .entry)) (now («data» .entry))) r ⌝ }
+{
+    let lent = lent_to(state, list, data);
+    qspi_operation::due(state.op, lent)
 }
 
 pub fn answer_so_far(state: State) -> Progress
@@ -144,7 +232,7 @@ pub fn answer_so_far(state: State) -> Progress
         status,
         used: op.used,
         replies: op.replies,
-        programmed: qspi_operation::programmed(op),
+        counted: qspi_operation::counted(op),
         gives: run::given(status, gives),
         clock: run::kept(status, low_level.clock),
         older: run::kept(status, wire.older),
@@ -167,10 +255,18 @@ fn holding(stepped: Stepped) -> Acted
 }
 
 // A step of the operation at hand. A call without data or without a read buffer is lent an empty one.
-pub fn step(state: State, data: &[u8], buffer: &mut [u8], log: &mut [u32], reply: Reply) -> Acted
-    ensures acted { λ r. ⌜ (r ≡ steppedOf state (now («data» .entry)) (length (now (buffer .entry))) (length (now (log .entry))) reply) × (now (buffer .exit) ≡ bufferOf (state .op) (now («data» .entry)) (now (buffer .entry)) (length (now (log .entry))) reply) × (now (log .exit) ≡ logOf (state .op) (now («data» .entry)) (length (now (buffer .entry))) (now (log .entry)) reply) × Steps (state .op) (now («data» .entry)) (now (buffer .entry)) (now (log .entry)) reply (r .answer) (r .state .op) (now (buffer .exit)) (now (log .exit)) ⌝ }
+pub fn step<'a>(
+    state: State,
+    list: &'a [u8],
+    data: &'a [u8],
+    buffer: &mut [u8],
+    log: &mut [u32],
+    reply: Reply,
+) -> Acted
+    ensures acted { λ r. ⌜ (r ≡ steppedOf state (lentTo (state .op) (now (list .entry)) (now («data» .entry))) (length (now (buffer .entry))) (length (now (log .entry))) reply) × (now (buffer .exit) ≡ bufferOf (state .op) (lentTo (state .op) (now (list .entry)) (now («data» .entry))) (now (buffer .entry)) (length (now (log .entry))) reply) × (now (log .exit) ≡ logOf (state .op) (lentTo (state .op) (now (list .entry)) (now («data» .entry))) (length (now (buffer .entry))) (now (log .entry)) reply) × Steps (state .op) (lentTo (state .op) (now (list .entry)) (now («data» .entry))) (now (buffer .entry)) (now (log .entry)) reply (r .answer) (r .state .op) (now (buffer .exit)) (now (log .exit)) ⌝ }
 {
-    holding(qspi_operation::step(state.op, data, buffer, log, reply))
+    let lent = lent_to(state, list, data);
+    holding(qspi_operation::step(state.op, lent, buffer, log, reply))
 }
 
 // The next one of the replies that was not used, or none.
@@ -193,5 +289,6 @@ pub fn is_under_way(answer: Answer) -> bool
     match answer {
         Answer::Given(status) => qspi_operation::is_going(status),
         Answer::Busy => false,
+        Answer::ListMissing => false,
     }
 }

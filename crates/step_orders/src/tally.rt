@@ -52,6 +52,7 @@ pub fn number_of(answer: Answer) -> u32 {
     match answer {
         Answer::Given(status) => number(status),
         Answer::Busy => BUSY,
+        Answer::ListMissing => BUSY,
     }
 }
 

@@ -69,9 +69,10 @@ fn turned(
 ) -> Turn {
     let answer = acted.answer;
     let state = acted.state;
-    let asked = state::due(state, memory::front_bytes(data, order.data));
+    let none = memory::front_bytes(data, 0);
+    let asked = state::due(state, none, memory::front_bytes(data, order.data));
     let length = lengths::other(order.data, random::number(turn.draw) / 128);
-    let other = turn::first_word(state::due(state, memory::front_bytes(data, length)));
+    let other = turn::first_word(state::due(state, none, memory::front_bytes(data, length)));
     let after = turn::next(turn, order, state::answer_so_far(state), asked);
     let given = tally::number_of(answer);
     let right = judge::is_right(turn, after, given, words);
@@ -136,6 +137,7 @@ fn lend(
     let log = memory::least(lent.log, words.len());
     state::step(
         state,
+        memory::front_bytes(data, 0),
         memory::front_bytes(data, lent.data),
         &mut bytes[..buffer],
         &mut words[..log],

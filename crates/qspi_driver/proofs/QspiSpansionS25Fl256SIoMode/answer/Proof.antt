@@ -71,8 +71,8 @@ module _ {M : Type 1} (𝓤 : URA M) (H : Heap 𝓤) (A : Atoms 𝓤) (W : Given
   abbrev to : Callee 𝓤 H A at-mem run .Ghost
   to = ((tt, tt, tt, (h .state, tt), (Types.state 𝓤 H A W .val (h .state) ∷ [], tt)), tt)
 
-  goes : ent 𝓤 (thin.Handed (Types.state 𝓤 H A W) (Types.progress 𝓤 H A W) (Types.driver 𝓤 H A W) W #callee κ₀ q₀ b o γ h) (Callee 𝓤 H A at-mem run .pre to)
-  goes = qed W (raw (thin.Handed (Types.state 𝓤 H A W) (Types.progress 𝓤 H A W) (Types.driver 𝓤 H A W) W #callee κ₀ q₀ b o γ h) ∷ []) ∵ frame ! $ done !
+  goes : ent 𝓤 (thin.Handed (Types.state 𝓤 H A W) (Types.list 𝓤 H A W) (Types.progress 𝓤 H A W) (Types.driver 𝓤 H A W) W #callee κ₀ q₀ b o γ h) (Callee 𝓤 H A at-mem run .pre to)
+  goes = qed W (raw (thin.Handed (Types.state 𝓤 H A W) (Types.list 𝓤 H A W) (Types.progress 𝓤 H A W) (Types.driver 𝓤 H A W) W #callee κ₀ q₀ b o γ h) ∷ []) ∵ frame ! $ done !
 
   -- what the callee ensures
   abbrev Said : Progress → Type 0
@@ -84,7 +84,7 @@ module _ {M : Type 1} (𝓤 : URA M) (H : Heap 𝓤) (A : Atoms 𝓤) (W : Given
   hears : (r : Progress) → ent 𝓤 (Ens r) (fact 𝓤 (Said r))
   hears r = exE 𝓤 _ (λ ws. snd∗ 𝓤 (sem 𝓤 H A (lasts callee.ended tt (h .state, tt) ws)) (fact 𝓤 (Said r)))
 
-  exits : (r : Progress) (w : Val) → Said r → ent 𝓤 (thin.Left (Types.state 𝓤 H A W) (Types.progress 𝓤 H A W) (Types.driver 𝓤 H A W) W #callee κ₀ q₀ b o γ h r w) (Post w)
+  exits : (r : Progress) (w : Val) → Said r → ent 𝓤 (thin.Left (Types.state 𝓤 H A W) (Types.list 𝓤 H A W) (Types.progress 𝓤 H A W) (Types.driver 𝓤 H A W) W #callee κ₀ q₀ b o γ h r w) (Post w)
   exits r w e =
       qed W (‵ (Progressᵀ.the-row .own r (w ∷ [])) ∷ ‵ (flft κ₀ q₀) ∷ (‵ ftrue) ∷ []) ∵
       suffices ! _
@@ -94,7 +94,7 @@ module _ {M : Type 1} (𝓤 : URA M) (H : Heap 𝓤) (A : Atoms 𝓤) (W : Given
 
   module _ (C : Calls 𝓤 H) (Λ : Loops 𝓤 H) (fm : FmC 𝓤 H (W .laws) C) (known : Triple 𝓤 (C #callee) (Callee 𝓤 H A at-mem run)) where
     walk : ent 𝓤 (onEntry 𝓤 H A this.signature (κ₀, tt) (q₀, tt) a vals) (WpFn 𝓤 H C Λ code.function (vptr b o ∷ []) Post)
-    walk = thin.walk (Types.state 𝓤 H A W) (Types.progress 𝓤 H A W) (Types.driver 𝓤 H A W) W #callee κ₀ q₀ b o γ h (Callee 𝓤 H A at-mem run .post to) Post Ens Said (λ w. id⊢ 𝓤 (Callee 𝓤 H A at-mem run .post to w)) hears exits C Λ fm (via 𝓤 (Callee 𝓤 H A at-mem run .pre to) goes (known to))
+    walk = thin.walk (Types.state 𝓤 H A W) (Types.list 𝓤 H A W) (Types.progress 𝓤 H A W) (Types.driver 𝓤 H A W) W #callee κ₀ q₀ b o γ h (Callee 𝓤 H A at-mem run .post to) Post Ens Said (λ w. id⊢ 𝓤 (Callee 𝓤 H A at-mem run .post to w)) hears exits C Λ fm (via 𝓤 (Callee 𝓤 H A at-mem run .pre to) goes (known to))
 
 module _ {M : Type 1} (𝓤 : URA M) (H : Heap 𝓤) (A : Atoms 𝓤) (W : Given 𝓤 H A) (at-mem : Memory → SProp 𝓤) (run : Routine → Fun 𝓤) where
   this-walks : (C : Calls 𝓤 H) (Λ : Loops 𝓤 H) → FmC 𝓤 H (W .laws) C → Triple 𝓤 (C #callee) (Callee 𝓤 H A at-mem run) → Walks 𝓤 H A this.ended stayed (WpFn 𝓤 H C Λ code.function) (this.clauses 𝓤 H A at-mem run)

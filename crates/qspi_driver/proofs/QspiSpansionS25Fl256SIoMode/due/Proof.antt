@@ -35,6 +35,8 @@ use Rattle.qspi_operation.specs.declared.Asked.{Asked}
 use Rattle.qspi_driver.proofs.QspiSpansionS25Fl256SIoMode as Driverᵀ
 use Rattle.qspi_operation.proofs.Asked as Askedᵀ
 use Rattle.hand_walks.proofs.Known.{slice}
+use Rattle.qspi_driver.specs.State.{lentTo}
+use native.Mathlib.Omega.{arith}
 use Rattle.qspi_driver.proofs.Types as Types
 use Rattle.hand_walks.proofs.Clauses.{each-of-two}
 use Rattle.qspi_operation.specs.Follows.{DueFollows}
@@ -71,24 +73,34 @@ module _ {M : Type 1} (𝓤 : URA M) (H : Heap 𝓤) (A : Atoms 𝓤) (W : Given
   abbrev Post : Val → SProp 𝓤
   Post = walkOf 𝓤 H A this.ended stayed (this.clauses 𝓤 H A at-mem run) .post (((κ₀, (κ₁, tt)), (q₀, (q₁, tt)), tt, a, vals), tt)
 
-  -- what the callee's triple binds outside, and that the method has what it asks
-  abbrev to : Callee 𝓤 H A at-mem run .Ghost
-  to = (((κ₁, tt), (q₁, tt), tt, (h .state, (bytes, tt)), (Types.state 𝓤 H A W .val (h .state) ∷ [], (slice bytes ∷ [], tt))), tt)
+  -- the driver's list as it is lent, and its slice
+  abbrev lent : GName → RefT (List ℕ)
+  lent γ′ = thin.lent (Types.state 𝓤 H A W) (Types.list 𝓤 H A W) (Types.asked 𝓤 H A W) (Types.driver 𝓤 H A W) 256 (Types.lender 𝓤 H A W) W #callee κ₀ κ₁ q₀ q₁ b o γ h bytes γ′
 
-  goes : ent 𝓤 (thin.Handed (Types.state 𝓤 H A W) (Types.asked 𝓤 H A W) (Types.driver 𝓤 H A W) W #callee κ₀ κ₁ q₀ q₁ b o γ h bytes) (Callee 𝓤 H A at-mem run .pre to)
-  goes = qed W (raw (thin.Handed (Types.state 𝓤 H A W) (Types.asked 𝓤 H A W) (Types.driver 𝓤 H A W) W #callee κ₀ κ₁ q₀ q₁ b o γ h bytes) ∷ []) ∵ frame ! $ done !
+  abbrev listed : Val
+  listed = thin.listed (Types.state 𝓤 H A W) (Types.list 𝓤 H A W) (Types.asked 𝓤 H A W) (Types.driver 𝓤 H A W) 256 (Types.lender 𝓤 H A W) W #callee κ₀ κ₁ q₀ q₁ b o γ h bytes
+
+  -- what the callee's triple binds outside, and that the method has what it asks
+  abbrev to : ℕ → GName → Callee 𝓤 H A at-mem run .Ghost
+  to ν γ′ = (((ν ∷ κ₁, tt), (q₁, tt), tt, (h .state, (lent γ′, (bytes, tt))), (Types.state 𝓤 H A W .val (h .state) ∷ [], (listed ∷ [], (slice bytes ∷ [], tt)))), tt)
+
+  goes : (ν : ℕ) (γ′ : GName) → ent 𝓤 (thin.Handed (Types.state 𝓤 H A W) (Types.list 𝓤 H A W) (Types.asked 𝓤 H A W) (Types.driver 𝓤 H A W) 256 (Types.lender 𝓤 H A W) W #callee κ₀ κ₁ q₀ q₁ b o γ h bytes ν γ′) (Callee 𝓤 H A at-mem run .pre (to ν γ′))
+  goes ν γ′ = qed W (raw (thin.Handed (Types.state 𝓤 H A W) (Types.list 𝓤 H A W) (Types.asked 𝓤 H A W) (Types.driver 𝓤 H A W) 256 (Types.lender 𝓤 H A W) W #callee κ₀ κ₁ q₀ q₁ b o γ h bytes ν γ′) ∷ []) ∵ frame ! $ done !
 
   -- what the callee ensures
+  abbrev given : List ℕ
+  given = lentTo (h .state .op) (h .list .numbers) (bytes .now)
+
   abbrev Said : Asked → Type 0
-  Said r = (r ≡ dueOf (h .state .op) (bytes .now)) × DueFollows (h .state .op) (bytes .now) r
+  Said r = (r ≡ dueOf (h .state .op) given) × DueFollows (h .state .op) given r
 
-  abbrev Ens : Asked → SProp 𝓤
-  Ens r = ensured 𝓤 H A callee.ended (callee.clauses 𝓤 H A at-mem run) (κ₁, tt) (h .state, (bytes, tt)) tt r
+  abbrev Ens : ℕ → GName → Asked → SProp 𝓤
+  Ens ν γ′ r = ensured 𝓤 H A callee.ended (callee.clauses 𝓤 H A at-mem run) (ν ∷ κ₁, tt) (h .state, (lent γ′, (bytes, tt))) tt r
 
-  hears : (r : Asked) → ent 𝓤 (Ens r) (fact 𝓤 (Said r))
-  hears r = exE 𝓤 _ (λ ws. snd∗ 𝓤 (sem 𝓤 H A (lasts callee.ended (κ₁, tt) (h .state, (bytes, tt)) ws)) (fact 𝓤 (Said r)))
+  hears : (ν : ℕ) (γ′ : GName) (r : Asked) → ent 𝓤 (Ens ν γ′ r) (fact 𝓤 (Said r))
+  hears ν γ′ r = exE 𝓤 _ (λ ws. snd∗ 𝓤 (sem 𝓤 H A (lasts callee.ended (ν ∷ κ₁, tt) (h .state, (lent γ′, (bytes, tt))) ws)) (fact 𝓤 (Said r)))
 
-  exits : (r : Asked) (w : Val) → Said r → ent 𝓤 (thin.Left (Types.state 𝓤 H A W) (Types.asked 𝓤 H A W) (Types.driver 𝓤 H A W) W #callee κ₀ κ₁ q₀ q₁ b o γ h bytes r w) (Post w)
+  exits : (r : Asked) (w : Val) → Said r → ent 𝓤 (thin.Left (Types.state 𝓤 H A W) (Types.list 𝓤 H A W) (Types.asked 𝓤 H A W) (Types.driver 𝓤 H A W) 256 (Types.lender 𝓤 H A W) W #callee κ₀ κ₁ q₀ q₁ b o γ h bytes r w) (Post w)
   exits r w e =
       qed W (‵ (Askedᵀ.the-row .own r (w ∷ [])) ∷ ‵ (flft κ₀ q₀) ∷ (‵ (flft κ₁ q₁) ⊛ ‵ ftrue) ∷ []) ∵
       suffices ! _
@@ -99,7 +111,7 @@ module _ {M : Type 1} (𝓤 : URA M) (H : Heap 𝓤) (A : Atoms 𝓤) (W : Given
 
   module _ (C : Calls 𝓤 H) (Λ : Loops 𝓤 H) (fm : FmC 𝓤 H (W .laws) C) (known : Triple 𝓤 (C #callee) (Callee 𝓤 H A at-mem run)) where
     walk : Room u8 (length (bytes .now)) → ent 𝓤 (onEntry 𝓤 H A this.signature (κ₀, (κ₁, tt)) (q₀, (q₁, tt)) a vals) (WpFn 𝓤 H C Λ code.function (vptr b o ∷ slice bytes ∷ []) Post)
-    walk = thin.walk (Types.state 𝓤 H A W) (Types.asked 𝓤 H A W) (Types.driver 𝓤 H A W) W #callee κ₀ κ₁ q₀ q₁ b o γ h bytes (Callee 𝓤 H A at-mem run .post to) Post Ens Said (λ w. id⊢ 𝓤 (Callee 𝓤 H A at-mem run .post to w)) hears exits C Λ fm (via 𝓤 (Callee 𝓤 H A at-mem run .pre to) goes (known to))
+    walk = thin.walk (Types.state 𝓤 H A W) (Types.list 𝓤 H A W) (Types.asked 𝓤 H A W) (Types.driver 𝓤 H A W) 256 (Types.lender 𝓤 H A W) W #callee κ₀ κ₁ q₀ q₁ b o γ h bytes (λ ν γ′. Callee 𝓤 H A at-mem run .post (to ν γ′)) Post Ens Said (λ ν γ′ w. id⊢ 𝓤 (Callee 𝓤 H A at-mem run .post (to ν γ′) w)) hears exits C Λ fm (λ ν γ′. via 𝓤 (Callee 𝓤 H A at-mem run .pre (to ν γ′)) (goes ν γ′) (known (to ν γ′))) (omega arith, omega arith) tt
 
 module _ {M : Type 1} (𝓤 : URA M) (H : Heap 𝓤) (A : Atoms 𝓤) (W : Given 𝓤 H A) (at-mem : Memory → SProp 𝓤) (run : Routine → Fun 𝓤) where
   this-walks : (C : Calls 𝓤 H) (Λ : Loops 𝓤 H) → FmC 𝓤 H (W .laws) C → Triple 𝓤 (C #callee) (Callee 𝓤 H A at-mem run) → Walks 𝓤 H A this.ended stayed (WpFn 𝓤 H C Λ code.function) (this.clauses 𝓤 H A at-mem run)

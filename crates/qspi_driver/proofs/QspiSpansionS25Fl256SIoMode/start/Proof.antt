@@ -77,8 +77,8 @@ module _ {M : Type 1} (𝓤 : URA M) (H : Heap 𝓤) (A : Atoms 𝓤) (W : Given
   abbrev to : Callee 𝓤 H A at-mem run .Ghost
   to = ((tt, tt, tt, (h .state, (op, tt)), (Types.state 𝓤 H A W .val (h .state) ∷ [], (Types.op 𝓤 H A W .val op ∷ [], tt))), tt)
 
-  goes : ent 𝓤 (thin.Handed (Types.state 𝓤 H A W) (Types.answer 𝓤 H A W) (Types.op 𝓤 H A W) (Types.driver 𝓤 H A W) (Types.acted 𝓤 H A W) W #callee κ₀ q₀ b o γ h op) (Callee 𝓤 H A at-mem run .pre to)
-  goes = qed W (raw (thin.Handed (Types.state 𝓤 H A W) (Types.answer 𝓤 H A W) (Types.op 𝓤 H A W) (Types.driver 𝓤 H A W) (Types.acted 𝓤 H A W) W #callee κ₀ q₀ b o γ h op) ∷ []) ∵ frame ! $ done !
+  goes : ent 𝓤 (thin.Handed (Types.state 𝓤 H A W) (Types.list 𝓤 H A W) (Types.answer 𝓤 H A W) (Types.op 𝓤 H A W) (Types.driver 𝓤 H A W) (Types.acted 𝓤 H A W) W #callee κ₀ q₀ b o γ h op) (Callee 𝓤 H A at-mem run .pre to)
+  goes = qed W (raw (thin.Handed (Types.state 𝓤 H A W) (Types.list 𝓤 H A W) (Types.answer 𝓤 H A W) (Types.op 𝓤 H A W) (Types.driver 𝓤 H A W) (Types.acted 𝓤 H A W) W #callee κ₀ q₀ b o γ h op) ∷ []) ∵ frame ! $ done !
 
   -- what the callee ensures
   abbrev Said : Acted → Type 0
@@ -90,19 +90,19 @@ module _ {M : Type 1} (𝓤 : URA M) (H : Heap 𝓤) (A : Atoms 𝓤) (W : Given
   hears : (r : Acted) → ent 𝓤 (Ens r) (fact 𝓤 (Said r))
   hears r = exE 𝓤 _ (λ ws. snd∗ 𝓤 (sem 𝓤 H A (lasts callee.ended tt (h .state, (op, tt)) ws)) (fact 𝓤 (Said r)))
 
-  exits : (r : Acted) → Is Answerᵀ.the-row (r .answer) (Types.answer 𝓤 H A W .val (r .answer) ∷ []) → Said r → ent 𝓤 (thin.Left (Types.state 𝓤 H A W) (Types.answer 𝓤 H A W) (Types.op 𝓤 H A W) (Types.driver 𝓤 H A W) (Types.acted 𝓤 H A W) W #callee κ₀ q₀ b o γ h op r) (Post (Types.answer 𝓤 H A W .val (r .answer)))
+  exits : (r : Acted) → Is Answerᵀ.the-row (r .answer) (Types.answer 𝓤 H A W .val (r .answer) ∷ []) → Said r → ent 𝓤 (thin.Left (Types.state 𝓤 H A W) (Types.list 𝓤 H A W) (Types.answer 𝓤 H A W) (Types.op 𝓤 H A W) (Types.driver 𝓤 H A W) (Types.acted 𝓤 H A W) W #callee κ₀ q₀ b o γ h op r) (Post (Types.answer 𝓤 H A W .val (r .answer)))
   exits r is e =
-      qed W (‵ (fobs γ (Driverᵀ.the-row .coded .code (record { state = r .state }))) ∷ ‵ (fbor κ₀ (Body (mem Driverᵀ.the-row) b o γ)) ∷ ‵ (flft κ₀ q₀) ∷ (‵ ftrue) ∷ []) ∵
+      qed W (‵ (fobs γ (Driverᵀ.the-row .coded .code (record { state = r .state; list = h .list }))) ∷ ‵ (fbor κ₀ (Body (mem Driverᵀ.the-row) b o γ)) ∷ ‵ (flft κ₀ q₀) ∷ (‵ ftrue) ∷ []) ∵
       suffices ! _
-      (via 𝓤 _ (monoR 𝓤 (onExit 𝓤 H A this.ended stayed (κ₀, tt) (q₀, tt) vals (Types.answer 𝓤 H A W .val (r .answer)) (r .answer) a (record { state = r .state }, (tt, tt))) (each-of-three 𝓤 _ _ _))
-      (ends-at 𝓤 H A this.ended stayed (this.clauses 𝓤 H A at-mem run) W (((κ₀, tt), (q₀, tt), tt, a, vals), tt) (Types.answer 𝓤 H A W .val (r .answer)) (r .answer) (record { state = r .state }, (tt, tt)) (tt, (tt, tt)))) $
-      says ! (ap (λ (y : Acted). driverOf (y .state)) (e .0), (ap (λ (y : Acted). y .answer) (e .0), e .1)) $
+      (via 𝓤 _ (monoR 𝓤 (onExit 𝓤 H A this.ended stayed (κ₀, tt) (q₀, tt) vals (Types.answer 𝓤 H A W .val (r .answer)) (r .answer) a (record { state = r .state; list = h .list }, (tt, tt))) (each-of-three 𝓤 _ _ _))
+      (ends-at 𝓤 H A this.ended stayed (this.clauses 𝓤 H A at-mem run) W (((κ₀, tt), (q₀, tt), tt, a, vals), tt) (Types.answer 𝓤 H A W .val (r .answer)) (r .answer) (record { state = r .state; list = h .list }, (tt, tt)) (tt, (tt, tt)))) $
+      says ! (ap (λ (y : Acted). driverOf (y .state) (h .list)) (e .0), (ap (λ (y : Acted). y .answer) (e .0), e .1)) $
       move ! (2 ∷ 3 ∷ []) $ join ! $ frame ! $ feqI ! (List Val) (vptr b o ∷ []) (vptr b o ∷ []) refl $ fjoin3 ! $ nothing ! $ nothing ! $ fjoin ! $ move ! (1 ∷ 0 ∷ []) $
       fjoin ! $ frame ! $ owned ! Answerᵀ.the-row (Is Answerᵀ.the-row) (Types.answer 𝓤 H A W .makes) (r .answer) _ is $ done !
 
   module _ (C : Calls 𝓤 H) (Λ : Loops 𝓤 H) (fm : FmC 𝓤 H (W .laws) C) (known : Triple 𝓤 (C #callee) (Callee 𝓤 H A at-mem run)) where
     walk : Is Opᵀ.the-row op (Types.op 𝓤 H A W .val op ∷ []) → ent 𝓤 (onEntry 𝓤 H A this.signature (κ₀, tt) (q₀, tt) a vals) (WpFn 𝓤 H C Λ code.function (vptr b o ∷ Types.op 𝓤 H A W .val op ∷ []) Post)
-    walk = thin.walk (Types.state 𝓤 H A W) (Types.answer 𝓤 H A W) (Types.op 𝓤 H A W) (Types.driver 𝓤 H A W) (Types.acted 𝓤 H A W) W #callee κ₀ q₀ b o γ h op (Callee 𝓤 H A at-mem run .post to) Post Ens Said (λ w. id⊢ 𝓤 (Callee 𝓤 H A at-mem run .post to w)) hears exits C Λ fm (via 𝓤 (Callee 𝓤 H A at-mem run .pre to) goes (known to))
+    walk = thin.walk (Types.state 𝓤 H A W) (Types.list 𝓤 H A W) (Types.answer 𝓤 H A W) (Types.op 𝓤 H A W) (Types.driver 𝓤 H A W) (Types.acted 𝓤 H A W) W #callee κ₀ q₀ b o γ h op (Callee 𝓤 H A at-mem run .post to) Post Ens Said (λ w. id⊢ 𝓤 (Callee 𝓤 H A at-mem run .post to w)) hears exits C Λ fm (via 𝓤 (Callee 𝓤 H A at-mem run .pre to) goes (known to))
 
 module _ {M : Type 1} (𝓤 : URA M) (H : Heap 𝓤) (A : Atoms 𝓤) (W : Given 𝓤 H A) (at-mem : Memory → SProp 𝓤) (run : Routine → Fun 𝓤) where
   this-walks : (C : Calls 𝓤 H) (Λ : Loops 𝓤 H) → FmC 𝓤 H (W .laws) C → Triple 𝓤 (C #callee) (Callee 𝓤 H A at-mem run) → Walks 𝓤 H A this.ended stayed (WpFn 𝓤 H C Λ code.function) (this.clauses 𝓤 H A at-mem run)

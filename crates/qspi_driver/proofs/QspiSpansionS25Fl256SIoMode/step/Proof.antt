@@ -33,7 +33,8 @@ use denote.Triple.Walked.{says, Stays, stay-ref, stay-dropped, gave-slice, walkO
 use denote.Exit.{yes}
 use denote.Signature.{plain, shrSliceOf}
 use Rattle.qspi_operation.specs.Step.{logOf, bufferOf}
-use Rattle.qspi_driver.specs.State.{steppedOf}
+use Rattle.qspi_driver.specs.State.{lentTo, steppedOf}
+use native.Mathlib.Omega.{arith}
 use Rattle.qspi_driver.specs.Driver.{driverOf}
 use Rattle.qspi_driver.specs.declared.QspiSpansionS25Fl256SIoMode.{QspiSpansionS25Fl256SIoMode}
 use Rattle.qspi_driver.specs.declared.state.Acted.{Acted}
@@ -78,44 +79,54 @@ module _ {M : Type 1} (𝓤 : URA M) (H : Heap 𝓤) (A : Atoms 𝓤) (W : Given
   abbrev Post : Val → SProp 𝓤
   Post = walkOf 𝓤 H A this.ended stayed (this.clauses 𝓤 H A at-mem run) .post (((κ₀, (κ₁, (κ₂, (κ₃, tt)))), (q₀, (q₁, (q₂, (q₃, tt)))), tt, a, vals), tt)
 
-  -- what the callee's triple binds outside, and that the method has what it asks
-  abbrev to : Callee 𝓤 H A at-mem run .Ghost
-  to = (((κ₁, (κ₂, (κ₃, tt))), (q₁, (q₂, (q₃, tt))), tt, (h .state, (bytes, (buffer, (log, (reply, tt))))), (Types.state 𝓤 H A W .val (h .state) ∷ [], (slice bytes ∷ [], (slice buffer ∷ [], (slice log ∷ [], (Types.reply 𝓤 H A W .val reply ∷ [], tt)))))), tt)
+  -- the driver's list as it is lent, and its slice
+  abbrev lent : GName → RefT (List ℕ)
+  lent γ′ = thin.lent (Types.state 𝓤 H A W) (Types.list 𝓤 H A W) (Types.answer 𝓤 H A W) (Types.reply 𝓤 H A W) (Types.driver 𝓤 H A W) 256 (Types.lender 𝓤 H A W) (Types.acted 𝓤 H A W) W #callee κ₀ κ₁ κ₂ κ₃ q₀ q₁ q₂ q₃ b o γ h bytes buffer log reply γ′
 
-  goes : ent 𝓤 (thin.Handed (Types.state 𝓤 H A W) (Types.answer 𝓤 H A W) (Types.reply 𝓤 H A W) (Types.driver 𝓤 H A W) (Types.acted 𝓤 H A W) W #callee κ₀ κ₁ κ₂ κ₃ q₀ q₁ q₂ q₃ b o γ h bytes buffer log reply) (Callee 𝓤 H A at-mem run .pre to)
-  goes = qed W (raw (thin.Handed (Types.state 𝓤 H A W) (Types.answer 𝓤 H A W) (Types.reply 𝓤 H A W) (Types.driver 𝓤 H A W) (Types.acted 𝓤 H A W) W #callee κ₀ κ₁ κ₂ κ₃ q₀ q₁ q₂ q₃ b o γ h bytes buffer log reply) ∷ []) ∵ frame ! $ done !
+  abbrev listed : Val
+  listed = thin.listed (Types.state 𝓤 H A W) (Types.list 𝓤 H A W) (Types.answer 𝓤 H A W) (Types.reply 𝓤 H A W) (Types.driver 𝓤 H A W) 256 (Types.lender 𝓤 H A W) (Types.acted 𝓤 H A W) W #callee κ₀ κ₁ κ₂ κ₃ q₀ q₁ q₂ q₃ b o γ h bytes buffer log reply
+
+  -- what the callee's triple binds outside, and that the method has what it asks
+  abbrev to : ℕ → GName → Callee 𝓤 H A at-mem run .Ghost
+  to ν γ′ = (((ν ∷ κ₁, (κ₂, (κ₃, tt))), (q₁, (q₂, (q₃, tt))), tt, (h .state, (lent γ′, (bytes, (buffer, (log, (reply, tt)))))), (Types.state 𝓤 H A W .val (h .state) ∷ [], (listed ∷ [], (slice bytes ∷ [], (slice buffer ∷ [], (slice log ∷ [], (Types.reply 𝓤 H A W .val reply ∷ [], tt))))))), tt)
+
+  goes : (ν : ℕ) (γ′ : GName) → ent 𝓤 (thin.Handed (Types.state 𝓤 H A W) (Types.list 𝓤 H A W) (Types.answer 𝓤 H A W) (Types.reply 𝓤 H A W) (Types.driver 𝓤 H A W) 256 (Types.lender 𝓤 H A W) (Types.acted 𝓤 H A W) W #callee κ₀ κ₁ κ₂ κ₃ q₀ q₁ q₂ q₃ b o γ h bytes buffer log reply ν γ′) (Callee 𝓤 H A at-mem run .pre (to ν γ′))
+  goes ν γ′ = qed W (raw (thin.Handed (Types.state 𝓤 H A W) (Types.list 𝓤 H A W) (Types.answer 𝓤 H A W) (Types.reply 𝓤 H A W) (Types.driver 𝓤 H A W) 256 (Types.lender 𝓤 H A W) (Types.acted 𝓤 H A W) W #callee κ₀ κ₁ κ₂ κ₃ q₀ q₁ q₂ q₃ b o γ h bytes buffer log reply ν γ′) ∷ []) ∵ frame ! $ done !
 
   -- what the callee ensures
+  abbrev given : List ℕ
+  given = lentTo (h .state .op) (h .list .numbers) (bytes .now)
+
   abbrev Said : Acted → List ℕ → List ℕ → Type 0
-  Said r buffer′ log′ = (r ≡ steppedOf (h .state) (bytes .now) (length (buffer .now)) (length (log .now)) reply) × (buffer′ ≡ bufferOf (h .state .op) (bytes .now) (buffer .now) (length (log .now)) reply) × (log′ ≡ logOf (h .state .op) (bytes .now) (length (buffer .now)) (log .now) reply) × Steps (h .state .op) (bytes .now) (buffer .now) (log .now) reply (r .answer) (r .state .op) buffer′ log′ × (length buffer′ ≡ length (buffer .now)) × (length log′ ≡ length (log .now))
+  Said r buffer′ log′ = (r ≡ steppedOf (h .state) given (length (buffer .now)) (length (log .now)) reply) × (buffer′ ≡ bufferOf (h .state .op) given (buffer .now) (length (log .now)) reply) × (log′ ≡ logOf (h .state .op) given (length (buffer .now)) (log .now) reply) × Steps (h .state .op) given (buffer .now) (log .now) reply (r .answer) (r .state .op) buffer′ log′ × (length buffer′ ≡ length (buffer .now)) × (length log′ ≡ length (log .now))
 
-  abbrev Ens : Acted → SProp 𝓤
-  Ens r = ensured 𝓤 H A callee.ended (callee.clauses 𝓤 H A at-mem run) (κ₁, (κ₂, (κ₃, tt))) (h .state, (bytes, (buffer, (log, (reply, tt))))) tt r
+  abbrev Ens : ℕ → GName → Acted → SProp 𝓤
+  Ens ν γ′ r = ensured 𝓤 H A callee.ended (callee.clauses 𝓤 H A at-mem run) (ν ∷ κ₁, (κ₂, (κ₃, tt))) (h .state, (lent γ′, (bytes, (buffer, (log, (reply, tt)))))) tt r
 
-  hears : (r : Acted) → ent 𝓤 (Ens r) (ex 𝓤 (λ (y : List ℕ × (List ℕ × Unit {0})). sep 𝓤 (sep 𝓤 (sem 𝓤 H A (finally u8 (buffer .name) (y .0))) (sem 𝓤 H A (finally u32 (log .name) (y .1 .0)))) (fact 𝓤 (Said r (y .0) (y .1 .0)))))
-  hears r =
-      qed W (raw (ensured 𝓤 H A callee.ended (callee.clauses 𝓤 H A at-mem run) (κ₁, (κ₂, (κ₃, tt))) (h .state, (bytes, (buffer, (log, (reply, tt))))) tt r) ∷ []) ∵ use1 W (some (λ (z : Unit {0} × (Unit {0} × (List ℕ × (List ℕ × (Unit {0} × Unit {0}))))). ‵ (lasts callee.ended (κ₁, (κ₂, (κ₃, tt))) (h .state, (bytes, (buffer, (log, (reply, tt))))) z) ⊛ raw (fact 𝓤 ((r ≡ steppedOf (h .state) (bytes .now) (length (buffer .now)) (length (log .now)) reply) × ((z .1 .1 .0) ≡ bufferOf (h .state .op) (bytes .now) (buffer .now) (length (log .now)) reply) × ((z .1 .1 .1 .0) ≡ logOf (h .state .op) (bytes .now) (length (buffer .now)) (log .now) reply) × Steps (h .state .op) (bytes .now) (buffer .now) (log .now) reply (r .answer) (r .state .op) (z .1 .1 .0) (z .1 .1 .1 .0))))) (id⊢ 𝓤 _) $
+  hears : (ν : ℕ) (γ′ : GName) (r : Acted) → ent 𝓤 (Ens ν γ′ r) (ex 𝓤 (λ (y : List ℕ × (List ℕ × Unit {0})). sep 𝓤 (sep 𝓤 (sem 𝓤 H A (finally u8 (buffer .name) (y .0))) (sem 𝓤 H A (finally u32 (log .name) (y .1 .0)))) (fact 𝓤 (Said r (y .0) (y .1 .0)))))
+  hears ν γ′ r =
+      qed W (raw (ensured 𝓤 H A callee.ended (callee.clauses 𝓤 H A at-mem run) (ν ∷ κ₁, (κ₂, (κ₃, tt))) (h .state, (lent γ′, (bytes, (buffer, (log, (reply, tt)))))) tt r) ∷ []) ∵ use1 W (some (λ (z : Unit {0} × (Unit {0} × (Unit {0} × (List ℕ × (List ℕ × (Unit {0} × Unit {0})))))). ‵ (lasts callee.ended (ν ∷ κ₁, (κ₂, (κ₃, tt))) (h .state, (lent γ′, (bytes, (buffer, (log, (reply, tt)))))) z) ⊛ raw (fact 𝓤 ((r ≡ steppedOf (h .state) given (length (buffer .now)) (length (log .now)) reply) × ((z .1 .1 .1 .0) ≡ bufferOf (h .state .op) given (buffer .now) (length (log .now)) reply) × ((z .1 .1 .1 .1 .0) ≡ logOf (h .state .op) given (length (buffer .now)) (log .now) reply) × Steps (h .state .op) given (buffer .now) (log .now) reply (r .answer) (r .state .op) (z .1 .1 .1 .0) (z .1 .1 .1 .1 .0))))) (id⊢ 𝓤 _) $
       pick ! (λ z. split ! $ move ! (1 ∷ []) $
-      heard ! ((r ≡ steppedOf (h .state) (bytes .now) (length (buffer .now)) (length (log .now)) reply) × ((z .1 .1 .0) ≡ bufferOf (h .state .op) (bytes .now) (buffer .now) (length (log .now)) reply) × ((z .1 .1 .1 .0) ≡ logOf (h .state .op) (bytes .now) (length (buffer .now)) (log .now) reply) × Steps (h .state .op) (bytes .now) (buffer .now) (log .now) reply (r .answer) (r .state .op) (z .1 .1 .0) (z .1 .1 .1 .0)) (λ e. fsplit ! $
-      drop ! $ fsplit ! $ drop ! $ fsplit ! $ fsplit ! $ move ! (1 ∷ []) $ feqL ! (λ same-buffer. move ! (1 ∷ []) $ fsplit ! $ fsplit ! $ move ! (1 ∷ []) $
+      heard ! ((r ≡ steppedOf (h .state) given (length (buffer .now)) (length (log .now)) reply) × ((z .1 .1 .1 .0) ≡ bufferOf (h .state .op) given (buffer .now) (length (log .now)) reply) × ((z .1 .1 .1 .1 .0) ≡ logOf (h .state .op) given (length (buffer .now)) (log .now) reply) × Steps (h .state .op) given (buffer .now) (log .now) reply (r .answer) (r .state .op) (z .1 .1 .1 .0) (z .1 .1 .1 .1 .0)) (λ e. fsplit ! $
+      drop ! $ fsplit ! $ drop ! $ fsplit ! $ drop ! $ fsplit ! $ fsplit ! $ move ! (1 ∷ []) $ feqL ! (λ same-buffer. move ! (1 ∷ []) $ fsplit ! $ fsplit ! $ move ! (1 ∷ []) $
       feqL ! (λ same-log. move ! (1 ∷ []) $ fsplit ! $ drop ! $ drop ! $ move ! (1 ∷ 0 ∷ []) $
-      show ! (λ (y : List ℕ × (List ℕ × Unit {0})). sep 𝓤 (sep 𝓤 (sem 𝓤 H A (finally u8 (buffer .name) (y .0))) (sem 𝓤 H A (finally u32 (log .name) (y .1 .0)))) (fact 𝓤 (Said r (y .0) (y .1 .0)))) (z .1 .1 .0, (z .1 .1 .1 .0, tt)) $
+      show ! (λ (y : List ℕ × (List ℕ × Unit {0})). sep 𝓤 (sep 𝓤 (sem 𝓤 H A (finally u8 (buffer .name) (y .0))) (sem 𝓤 H A (finally u32 (log .name) (y .1 .0)))) (fact 𝓤 (Said r (y .0) (y .1 .0)))) (z .1 .1 .1 .0, (z .1 .1 .1 .1 .0, tt)) $
       says ! (e .0, e .1, e .2, e .3, same-buffer, same-log) $ frame ! $ done !))))
 
-  exits : (r : Acted) (buffer′ : List ℕ) (log′ : List ℕ) → Is Answerᵀ.the-row (r .answer) (Types.answer 𝓤 H A W .val (r .answer) ∷ []) → Said r buffer′ log′ → ent 𝓤 (thin.Left (Types.state 𝓤 H A W) (Types.answer 𝓤 H A W) (Types.reply 𝓤 H A W) (Types.driver 𝓤 H A W) (Types.acted 𝓤 H A W) W #callee κ₀ κ₁ κ₂ κ₃ q₀ q₁ q₂ q₃ b o γ h bytes buffer log reply r buffer′ log′) (Post (Types.answer 𝓤 H A W .val (r .answer)))
+  exits : (r : Acted) (buffer′ : List ℕ) (log′ : List ℕ) → Is Answerᵀ.the-row (r .answer) (Types.answer 𝓤 H A W .val (r .answer) ∷ []) → Said r buffer′ log′ → ent 𝓤 (thin.Left (Types.state 𝓤 H A W) (Types.list 𝓤 H A W) (Types.answer 𝓤 H A W) (Types.reply 𝓤 H A W) (Types.driver 𝓤 H A W) 256 (Types.lender 𝓤 H A W) (Types.acted 𝓤 H A W) W #callee κ₀ κ₁ κ₂ κ₃ q₀ q₁ q₂ q₃ b o γ h bytes buffer log reply r buffer′ log′) (Post (Types.answer 𝓤 H A W .val (r .answer)))
   exits r buffer′ log′ is e =
-      qed W (‵ (fobs γ (Driverᵀ.the-row .coded .code (record { state = r .state }))) ∷ ‵ (fbor κ₀ (Body (mem Driverᵀ.the-row) b o γ)) ∷ ‵ (flft κ₀ q₀) ∷ (‵ (flft κ₁ q₁) ⊛ ‵ (flft κ₂ q₂) ⊛ ‵ (flft κ₃ q₃) ⊛ ‵ ftrue) ∷ ‵ (finally u8 (buffer .name) buffer′) ∷ ‵ (finally u32 (log .name) log′) ∷ []) ∵
+      qed W (‵ (fobs γ (Driverᵀ.the-row .coded .code (record { state = r .state; list = h .list }))) ∷ ‵ (fbor κ₀ (Body (mem Driverᵀ.the-row) b o γ)) ∷ ‵ (flft κ₀ q₀) ∷ (‵ (flft κ₁ q₁) ⊛ ‵ (flft κ₂ q₂) ⊛ ‵ (flft κ₃ q₃) ⊛ ‵ ftrue) ∷ ‵ (finally u8 (buffer .name) buffer′) ∷ ‵ (finally u32 (log .name) log′) ∷ []) ∵
       suffices ! _
-      (via 𝓤 _ (monoR 𝓤 (onExit 𝓤 H A this.ended stayed (κ₀, (κ₁, (κ₂, (κ₃, tt)))) (q₀, (q₁, (q₂, (q₃, tt)))) vals (Types.answer 𝓤 H A W .val (r .answer)) (r .answer) a (record { state = r .state }, (tt, (buffer′, (log′, (tt, tt)))))) (each-of-five 𝓤 _ _ _ _ _))
-      (ends-at 𝓤 H A this.ended stayed (this.clauses 𝓤 H A at-mem run) W (((κ₀, (κ₁, (κ₂, (κ₃, tt)))), (q₀, (q₁, (q₂, (q₃, tt)))), tt, a, vals), tt) (Types.answer 𝓤 H A W .val (r .answer)) (r .answer) (record { state = r .state }, (tt, (buffer′, (log′, (tt, tt))))) (tt, (tt, (e .4, (e .5, (tt, tt))))))) $
-      says ! (ap (λ (y : Acted). driverOf (y .state)) (e .0), (ap (λ (y : Acted). y .answer) (e .0), (e .1, (e .2, e .3)))) $
+      (via 𝓤 _ (monoR 𝓤 (onExit 𝓤 H A this.ended stayed (κ₀, (κ₁, (κ₂, (κ₃, tt)))) (q₀, (q₁, (q₂, (q₃, tt)))) vals (Types.answer 𝓤 H A W .val (r .answer)) (r .answer) a (record { state = r .state; list = h .list }, (tt, (buffer′, (log′, (tt, tt)))))) (each-of-five 𝓤 _ _ _ _ _))
+      (ends-at 𝓤 H A this.ended stayed (this.clauses 𝓤 H A at-mem run) W (((κ₀, (κ₁, (κ₂, (κ₃, tt)))), (q₀, (q₁, (q₂, (q₃, tt)))), tt, a, vals), tt) (Types.answer 𝓤 H A W .val (r .answer)) (r .answer) (record { state = r .state; list = h .list }, (tt, (buffer′, (log′, (tt, tt))))) (tt, (tt, (e .4, (e .5, (tt, tt))))))) $
+      says ! (ap (λ (y : Acted). driverOf (y .state) (h .list)) (e .0), (ap (λ (y : Acted). y .answer) (e .0), (e .1, (e .2, e .3)))) $
       move ! (2 ∷ 3 ∷ []) $ join ! $ frame ! $ feqI ! (List Val) (vptr b o ∷ []) (vptr b o ∷ []) refl $ fjoin3 ! $ nothing ! $ nothing ! $ fjoin ! $ move ! (3 ∷ 0 ∷ []) $
       fjoin ! $ move ! (2 ∷ 0 ∷ []) $ fjoin ! $ nothing ! $ fjoin ! $ move ! (1 ∷ 0 ∷ []) $ fjoin ! $ frame ! $
       owned ! Answerᵀ.the-row (Is Answerᵀ.the-row) (Types.answer 𝓤 H A W .makes) (r .answer) _ is $ done !
 
   module _ (C : Calls 𝓤 H) (Λ : Loops 𝓤 H) (fm : FmC 𝓤 H (W .laws) C) (known : Triple 𝓤 (C #callee) (Callee 𝓤 H A at-mem run)) where
     walk : Room u8 (length (bytes .now)) → Room u8 (length (buffer .now)) → Room u32 (length (log .now)) → Is Replyᵀ.the-row reply (Types.reply 𝓤 H A W .val reply ∷ []) → ent 𝓤 (onEntry 𝓤 H A this.signature (κ₀, (κ₁, (κ₂, (κ₃, tt)))) (q₀, (q₁, (q₂, (q₃, tt)))) a vals) (WpFn 𝓤 H C Λ code.function (vptr b o ∷ slice bytes ∷ slice buffer ∷ slice log ∷ Types.reply 𝓤 H A W .val reply ∷ []) Post)
-    walk = thin.walk (Types.state 𝓤 H A W) (Types.answer 𝓤 H A W) (Types.reply 𝓤 H A W) (Types.driver 𝓤 H A W) (Types.acted 𝓤 H A W) W #callee κ₀ κ₁ κ₂ κ₃ q₀ q₁ q₂ q₃ b o γ h bytes buffer log reply (Callee 𝓤 H A at-mem run .post to) Post Ens Said (λ w. id⊢ 𝓤 (Callee 𝓤 H A at-mem run .post to w)) hears exits C Λ fm (via 𝓤 (Callee 𝓤 H A at-mem run .pre to) goes (known to))
+    walk = thin.walk (Types.state 𝓤 H A W) (Types.list 𝓤 H A W) (Types.answer 𝓤 H A W) (Types.reply 𝓤 H A W) (Types.driver 𝓤 H A W) 256 (Types.lender 𝓤 H A W) (Types.acted 𝓤 H A W) W #callee κ₀ κ₁ κ₂ κ₃ q₀ q₁ q₂ q₃ b o γ h bytes buffer log reply (λ ν γ′. Callee 𝓤 H A at-mem run .post (to ν γ′)) Post Ens Said (λ ν γ′ w. id⊢ 𝓤 (Callee 𝓤 H A at-mem run .post (to ν γ′) w)) hears exits C Λ fm (λ ν γ′. via 𝓤 (Callee 𝓤 H A at-mem run .pre (to ν γ′)) (goes ν γ′) (known (to ν γ′))) (omega arith, omega arith) tt
 
 module _ {M : Type 1} (𝓤 : URA M) (H : Heap 𝓤) (A : Atoms 𝓤) (W : Given 𝓤 H A) (at-mem : Memory → SProp 𝓤) (run : Routine → Fun 𝓤) where
   this-walks : (C : Calls 𝓤 H) (Λ : Loops 𝓤 H) → FmC 𝓤 H (W .laws) C → Triple 𝓤 (C #callee) (Callee 𝓤 H A at-mem run) → Walks 𝓤 H A this.ended stayed (WpFn 𝓤 H C Λ code.function) (this.clauses 𝓤 H A at-mem run)

@@ -12,12 +12,18 @@ is-going-requires c κs = search needs
 enum-told : tie.Need-enum-told
 enum-told c = search needs
 
+enum-told-2 : tie.Need-enum-told-2
+enum-told-2 c = search needs
+
 returns : tie.Need-returns
 returns c = search needs
 
 returns-2 : tie.Need-returns-2
 returns-2 c = search needs
 
+returns-3 : tie.Need-returns-3
+returns-3 c = search needs
+
 pub is-under-way-spec : {M : Type 1} → statement M
 is-under-way-spec =
-    tie.close (tie.spec enum-known-answer is-going-requires enum-told returns returns-2)
+    tie.close (tie.spec enum-known-answer is-going-requires enum-told enum-told-2 returns returns-2 returns-3)

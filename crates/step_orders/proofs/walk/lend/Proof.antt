@@ -15,6 +15,9 @@ least-requires-2 c κs = tt
 front-bytes-requires : tie.Need-front-bytes-requires
 front-bytes-requires c κs = tt
 
+front-bytes-requires-2 : tie.Need-front-bytes-requires-2
+front-bytes-requires-2 c κs = tt
+
 slice-relend-prefix-step : tie.Need-slice-relend-prefix-step
 slice-relend-prefix-step c = omega arith
 
@@ -46,6 +49,7 @@ lend-spec =
     least-requires
     least-requires-2
     front-bytes-requires
+    front-bytes-requires-2
     slice-relend-prefix-step
     slice-aggregate-step
     slice-relend-prefix-step-2
