@@ -1,4 +1,4 @@
--- Document 01's numbers 21 and 22, and 4 and 5 after finished chunks, each with "precisely when"; after 21 or 22 the log ends with clear status and write disable. Assumes nothing.
+-- Document 01's numbers 21 and 22, and 4 and 5 after finished chunks, each with "precisely when"; after 21 or 22 the log ends with clear status and write disable, and an erase that is done ends clean. Assumes nothing.
 use mathlib.Core.Path.{_≡_, refl, ap, subst, _∙_, sym}
 use mathlib.Core.Bool.{Bool, true, false, not, _&&_}
 use mathlib.Core.List.{List, [], _∷_, _++_, append-nil, append-assoc}
@@ -345,6 +345,14 @@ fails-some bit x log f =
     let v : length log ≡ length (f .front) + length (d .clear ++ d .disable) = ap length (d .is) ∙ length-append (f .front) (d .clear ++ d .disable) in
     omega (arith, h, u, v)
 
+-- and so has what is settled
+settles-some : (bit : ℕ) (x : Transfer) (log : List Access) → Settles bit x log → 0 < length log
+settles-some bit x log s =
+    let l = s .looped in
+    let h = whole-some enabling (l .enable) (l .enabled .0) (l .enabled .1) in
+    let u : length log ≡ length (l .enable) + length (l .work ++ (l .busy ++ l .last)) = ap length (l .is) ∙ length-append (l .enable) (l .work ++ (l .busy ++ l .last)) in
+    omega (arith, h, u)
+
 module _ (room : ℕ) (replies : List ℕ) where
   abbrev Answers : Script → Status → Type 0
   Answers c a = called c room replies .answer ≡ a
@@ -378,6 +386,37 @@ module _ (room : ℕ) (replies : List ℕ) where
       Iff·trans (Iff·trans (past room replies (λ r. r .answer ≡ EraseErrorBitSet) b₁ OutOfRange _ (refuses-not room replies OutOfRange EraseErrorBitSet refl refl)) (Iff·and Iff·rfl (past-not room replies (λ r. r .answer ≡ EraseErrorBitSet) b₂ Alignment _ (refuses-not room replies Alignment EraseErrorBitSet refl refl))))
       (Iff·trans (Iff·and Iff·rfl (Iff·and Iff·rfl (work-when 5 EraseErrorBitSet (erasing a) refl (λ e. let z : _≡_ {A = ℕ} 0 21 = ap numberOf e in omega (arith, z)))))
       (Iff·symm (Iff·trans (past room replies (λ r. Fails 5 (erasing a) (r .log)) b₁ OutOfRange _ (fails-not OutOfRange 5 (erasing a))) (Iff·and Iff·rfl (past-not room replies (λ r. Fails 5 (erasing a) (r .log)) b₂ Alignment _ (fails-not Alignment 5 (erasing a)))))))
+    where
+      b₁ : Bool
+      b₁ = ltb 16777215 (a + 65536)
+
+      b₂ : Bool
+      b₂ = eqb (a % 65536) 0
+
+  settles-not : (s : Status) (bit : ℕ) (x : Transfer) → Settles bit x (logOf (refused s)) → ⊥
+  settles-not s bit x f = let z : length (logOf (refused s)) ≡ 0 = ap (λ (r : Result). length (r .log)) (at-once room replies s []) in omega (arith, z, settles-some bit x (logOf (refused s)) f)
+
+  work-done : (bit : ℕ) (failure : Status) (x : Transfer) → (failure ≡ Done → ⊥) → Answers (call.working bit failure x (ends Done [])) Done ↔ Settles bit x (logOf (call.working bit failure x (ends Done [])))
+  work-done bit failure x n =
+      let c = call.working bit failure x (ends Done []) in (
+        λ q.
+            let e = own-end c room replies Done refl q in
+            go (e .1) (work-comes bit failure x (ends Done []) [] 0 (logOf c) (called c room replies .state) (e .0) (plays-run c room replies)),
+        λ f. answers-end c room replies (ended Done [] [] 0) refl (ap (after (begin c [] 0)) (sym (append-nil (logOf c))) ∙ after-settles bit failure x (ends Done []) [] 0 (logOf c) [] f),
+      )
+    where
+      go : statusIn (called (call.working bit failure x (ends Done [])) room replies .state) ≡ Done
+          → Comes bit failure x (ends Done []) [] 0 (logOf (call.working bit failure x (ends Done []))) (called (call.working bit failure x (ends Done [])) room replies .state)
+          → Settles bit x (logOf (call.working bit failure x (ends Done [])))
+      go e (fails f z) = absurd (n (ap statusIn z ∙ e))
+      go e (settles front tail s is p) = subst (Settles bit x) (sym (is ∙ (ap (λ (y : List Access). front ++ y) (plays-end Done [] [] 0 tail _ p .0) ∙ append-nil front))) s
+
+  -- done: the status transfer that ended the loop shows neither bit 5 nor bit 0, its closing included
+  pub erase-done : (a : ℕ) → Answers (call.eraseSector a) Done ↔ Settles 5 (erasing a) (logOf (call.eraseSector a))
+  erase-done a =
+      Iff·trans (Iff·trans (past room replies (λ r. r .answer ≡ Done) b₁ OutOfRange _ (refuses-not room replies OutOfRange Done refl refl)) (Iff·and Iff·rfl (past-not room replies (λ r. r .answer ≡ Done) b₂ Alignment _ (refuses-not room replies Alignment Done refl refl))))
+      (Iff·trans (Iff·and Iff·rfl (Iff·and Iff·rfl (work-done 5 EraseErrorBitSet (erasing a) (λ e. let z : _≡_ {A = ℕ} 21 0 = ap numberOf e in omega (arith, z)))))
+      (Iff·symm (Iff·trans (past room replies (λ r. Settles 5 (erasing a) (r .log)) b₁ OutOfRange _ (settles-not OutOfRange 5 (erasing a))) (Iff·and Iff·rfl (past-not room replies (λ r. Settles 5 (erasing a) (r .log)) b₂ Alignment _ (settles-not Alignment 5 (erasing a)))))))
     where
       b₁ : Bool
       b₁ = ltb 16777215 (a + 65536)

@@ -9,6 +9,10 @@ pub mod Several
 pub mod Pages
 pub mod ListLoops
 pub mod ListOfSectors
+pub mod ListPlaces
+pub mod OneByOne
+pub mod ListPrecisely
+pub mod ListExamples
 pub mod PageExamples
 pub mod LowLevelCalls
 pub mod ReadBytes

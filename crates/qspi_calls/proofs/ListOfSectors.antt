@@ -52,7 +52,7 @@ pub data Good : List ℕ → Type 0 where
   none : Good []
   one : {a : ℕ} {l : List ℕ} → a + 65536 ≤ 16777215 → a % 65536 ≡ 0 → Good l → Good (a ∷ l)
 
-accepted : (a : ℕ) → isGoing (sectorStatus a) ≡ true → (a + 65536 ≤ 16777215) × (a % 65536 ≡ 0)
+pub accepted : (a : ℕ) → isGoing (sectorStatus a) ≡ true → (a + 65536 ≤ 16777215) × (a % 65536 ≡ 0)
 accepted a = go (ltb 16777215 (a + 65536)) refl (eqb (a % 65536) 0) refl
   where
     go : (b : Bool) → ltb 16777215 (a + 65536) ≡ b → (c : Bool) → eqb (a % 65536) 0 ≡ c → isGoing (cond b OutOfRange (cond c Going Alignment)) ≡ true → (a + 65536 ≤ 16777215) × (a % 65536 ≡ 0)
@@ -141,7 +141,7 @@ place-given : (i n log : ℕ) (a : Status) (bytes words : List ℕ) → isGoing 
 place-given i n log a bytes words g e f = ended-with (i ∷ []) (start.listJob (gives.Place i) n log) bytes words [] a g (λ w. refl) e f refl
 
 -- the entry at the first place that is refused is refused
-refused-there : (l : List ℕ) → firstRefused l < length l → isGoing (sectorStatus (getD l (firstRefused l) 0)) ≡ false
+pub refused-there : (l : List ℕ) → firstRefused l < length l → isGoing (sectorStatus (getD l (firstRefused l) 0)) ≡ false
 refused-there [] h = absurd (omega arith)
 refused-there (a ∷ l) h = go (isGoing (sectorStatus a)) refl h (λ k. refused-there l k)
   where

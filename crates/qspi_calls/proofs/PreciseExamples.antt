@@ -24,7 +24,7 @@ use Rattle.qspi_calls.proofs.ReadIndex.{Later, then}
 use Rattle.qspi_calls.proofs.Refusals.{byInput}
 
 -- what a one-word transfer reads where nothing is to be drained and the reply is ready: status, config, config, status, the reply, config
-abbrev once : ℕ → List ℕ
+abbrev pub once : ℕ → List ℕ
 once r = 0 ∷ 0 ∷ 0 ∷ 0x10 ∷ r ∷ 0 ∷ []
 
 -- so many replies of `program`, each after two status reads

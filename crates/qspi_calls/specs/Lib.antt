@@ -7,3 +7,4 @@ pub mod Prompt
 pub mod Promise
 pub mod Settled
 pub mod Sectors
+pub mod OneByOne
