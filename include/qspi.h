@@ -4,10 +4,10 @@
  * hardware: a register read takes the next reply, and each access goes into the log as two words, the offset (plus 0x100 for a
  * read) and the value. Log words past the used ones and bytes that are not read keep what they held.
  *
- * `answer` is 0 where the call is done, else the number of document 01: 1 OutOfRange, 2 Alignment, 3 DataTooLarge,
+ * `answer` is 0 where the call is done, else the number of document 01 or 02: 1 OutOfRange, 2 Alignment, 3 DataTooLarge,
  * 4 NotAligned, 5 CrossesPageBoundary, 6 RefDivOutOfRange, 7 RefClockSmallerThanCpu1xClock, 8 ZeroClock, 9 TargetTooFast,
  * 10 AddressSpan, 11 UnknownCode, 12 FieldTooWide, 21 EraseErrorBitSet, 22 ProgrammingErrorBitSet, 23 RepliesEnded,
- * 24 LogFull. Any value of any argument gets one of these answers.
+ * 24 LogFull, 32 RepeatedSector, 33 ListTooLong. Any value of any argument gets one of these answers.
  *
  * After 23 or 24 a transfer may be open: chip select is then low, and TX words may wait that the next call would send ahead of
  * its own. A write enable after a save that ended so can program its command byte behind the save's data. Reset the controller
@@ -37,6 +37,7 @@ extern "C" {
  * the calls make so many accesses:
  *     program, write_pages, reads                        by the macros; a chunk of 128 bytes of write_pages takes 164
  *     erase_sector                                       36
+ *     erase_sectors                                      36 for each sector, by the macro
  *     new                                                12; 36 where something is asked for; 60 where it has to be written
  *     set_write_protection                               48
  *     write_status, write_status_and_config_register     24
@@ -55,6 +56,7 @@ extern "C" {
  * 4294967296; no call accepts more. */
 #define QSPI_PROGRAM_ACCESSES(length) ((uint64_t)36 + (uint64_t)(length))
 #define QSPI_WRITE_PAGES_ACCESSES(length) ((uint64_t)(length) + ((uint64_t)(length) + 127) / 128 * 36)
+#define QSPI_ERASE_SECTORS_ACCESSES(sectors) ((uint64_t)(sectors) * 36)
 #define QSPI_READ_ACCESSES(length, dummy_byte) ((dummy_byte) ? QSPI_READS_OF(length, 1) : QSPI_READS_OF(length, 0))
 #define QSPI_LOG_WORDS(accesses, busy, looks) (((uint64_t)(accesses) + (uint64_t)(busy) * 12 + (uint64_t)(looks) * 2) * 2)
 
@@ -74,6 +76,16 @@ struct qspi_ran {
 struct qspi_pages_ran {
     uint32_t answer;
     size_t programmed;
+    size_t used;
+    size_t replies;
+};
+
+/* `place` is the entry, from 0, that 1, 2 or 32 refuses, else 0. `finished` counts the sectors whose status loop ended clean,
+ * the closing of its last transfer included, whatever the answer is: so many from the list's front. */
+struct qspi_sectors_ran {
+    uint32_t answer;
+    uint32_t place;
+    size_t finished;
     size_t used;
     size_t replies;
 };
@@ -169,6 +181,13 @@ struct qspi_id_ran qspi_read_rdid_base(const uint32_t *replies, size_t replies_l
 struct qspi_long_id_ran qspi_read_rdid_extended(const uint32_t *replies, size_t replies_len, uint32_t *log, size_t log_len);
 
 struct qspi_ran qspi_erase_sector(uint32_t addr, const uint32_t *replies, size_t replies_len, uint32_t *log, size_t log_len);
+
+/* Erases the sectors of a list in its order. All of it is tested before the first access: 33 above 256 entries; then the
+ * first that meets 1 or 2, as for one sector; then 32 for the first that repeats an earlier one. Midway only 21, 23 and 24
+ * stop it. */
+struct qspi_sectors_ran qspi_erase_sectors(const uint32_t *list, size_t list_len, const uint32_t *replies, size_t replies_len,
+                                           uint32_t *log, size_t log_len);
+
 struct qspi_ran qspi_program(uint32_t addr, const uint8_t *data, size_t data_len, const uint32_t *replies, size_t replies_len,
                              uint32_t *log, size_t log_len);
 struct qspi_pages_ran qspi_write_pages(uint32_t addr, const uint8_t *data, size_t data_len, const uint32_t *replies,

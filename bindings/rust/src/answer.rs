@@ -3,7 +3,7 @@
 /// Gives the enum of the numbers and the ways between a number, its case and its name.
 macro_rules! answers {
     ($($(#[$note:meta])* $name:ident = $number:literal),* $(,)?) => {
-        /// How a call can end, with document 01's number and name.
+        /// How a call can end, with document 01's number and name; from 32 on they are document 02's.
         #[derive(Clone, Copy, Debug, PartialEq, Eq)]
         #[repr(u32)]
         #[non_exhaustive]
@@ -13,7 +13,7 @@ macro_rules! answers {
             /// Every answer, in the order of the numbers.
             pub const ALL: &[Answer] = &[$(Answer::$name),*];
 
-            /// The name in document 01.
+            /// The name in document 01 or 02.
             pub const fn name(self) -> &'static str {
                 match self { $(Answer::$name => stringify!($name)),* }
             }
@@ -61,10 +61,14 @@ answers! {
     RepliesEnded = 23,
     /// An access was due and fewer than two words of log were left.
     LogFull = 24,
+    /// A list names a sector twice.
+    RepeatedSector = 32,
+    /// A list has more than 256 entries.
+    ListTooLong = 33,
 }
 
 impl Answer {
-    /// Document 01's number.
+    /// The number in document 01 or 02.
     pub const fn number(self) -> u32 {
         self as u32
     }

@@ -18,6 +18,7 @@ macro_rules! c_struct {
 
 c_struct!(qspi_ran { answer: u32, used: usize, replies: usize });
 c_struct!(qspi_pages_ran { answer: u32, programmed: usize, used: usize, replies: usize });
+c_struct!(qspi_sectors_ran { answer: u32, place: u32, finished: usize, used: usize, replies: usize });
 c_struct!(qspi_value_ran { answer: u32, value: u32, used: usize, replies: usize });
 c_struct!(qspi_id_ran {
     answer: u32,
@@ -164,6 +165,14 @@ unsafe extern "C" {
         log: *mut u32,
         log_len: usize,
     ) -> qspi_ran;
+    pub(crate) fn qspi_erase_sectors(
+        list: *const u32,
+        list_len: usize,
+        replies: *const u32,
+        replies_len: usize,
+        log: *mut u32,
+        log_len: usize,
+    ) -> qspi_sectors_ran;
     pub(crate) fn qspi_program(
         addr: u32,
         data: *const u8,

@@ -72,6 +72,23 @@ result! {
 }
 
 result! {
+    /// How [erase_sectors] ended.
+    SectorsRan from qspi_sectors_ran {
+        /// The number of an [Answer].
+        answer: u32,
+        /// The entry, from 0, that [OutOfRange](Answer::OutOfRange), [Alignment](Answer::Alignment) or
+        /// [RepeatedSector](Answer::RepeatedSector) refuses, else 0.
+        place: u32,
+        /// Sectors that ended clean, whatever the answer is: so many from the list's front.
+        finished: usize,
+        /// Log words used.
+        used: usize,
+        /// Replies used.
+        replies: usize,
+    }
+}
+
+result! {
     /// How a call with one value ended.
     ValueRan from qspi_value_ran {
         /// The number of an [Answer].
@@ -318,6 +335,12 @@ call! {
 }
 
 call! {
+    /// Erases the sectors of a list of up to 256 in its order. All of it is tested before the first access, and a refused list
+    /// makes none; midway only an error bit and the end of replies or log stop it.
+    erase_sectors = qspi_erase_sectors(list: &[u32] => [list.as_ptr(), list.len()]) -> SectorsRan
+}
+
+call! {
     /// Programs up to 240 bytes within one page.
     program = qspi_program(addr: u32 => [addr], data: &[u8] => [data.as_ptr(), data.len()]) -> Ran
 }
@@ -391,6 +414,30 @@ mod tests {
     fn a_log_without_room_is_full() {
         let ran = write_enable(&[], &mut []);
         assert_eq!(ran, Ran { answer: Answer::LogFull.number(), used: 0, replies: 0 });
+    }
+
+    #[test]
+    fn a_refused_list_makes_no_access() {
+        let refused =
+            |answer: Answer, place| SectorsRan { answer: answer.number(), place, finished: 0, used: 0, replies: 0 };
+        let mut log = [0xAAAA_AAAA; 26];
+        let mut erase = |list: &[u32]| erase_sectors(list, &REPLIES, &mut log);
+        assert_eq!(erase(&[0; 257]), refused(Answer::ListTooLong, 0));
+        assert_eq!(erase(&[0, 0, 0xFF_0001]), refused(Answer::OutOfRange, 2));
+        assert_eq!(erase(&[0, 0, 0x4_0004]), refused(Answer::Alignment, 2));
+        assert_eq!(erase(&[0, 0x3_0000, 0]), refused(Answer::RepeatedSector, 2));
+        assert_eq!(erase(&[]), refused(Answer::Done, 0));
+        assert_eq!(log, [0xAAAA_AAAA; 26]);
+    }
+
+    #[test]
+    fn a_list_erases_its_sectors_in_order() {
+        let replies = REPLIES.repeat(6).into_iter().map(|word| word & 0x00FF_FFFF).collect::<Vec<u32>>();
+        let mut log = [0; 144];
+        let ran = erase_sectors(&[0x5_0000, 0x3_0000], &replies, &mut log);
+        assert_eq!(ran, SectorsRan { answer: 0, place: 0, finished: 2, used: 144, replies: 36 });
+        let sent: Vec<u32> = log.chunks(2).filter(|access| access[0] == 0x1C).map(|access| access[1]).collect();
+        assert_eq!(sent, [0x0000_05D8, 0x0000_03D8]);
     }
 
     #[test]

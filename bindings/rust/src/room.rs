@@ -7,6 +7,7 @@
 //! |---|---|
 //! | [write_pages](crate::write_pages), [program](crate::program), both reads | the functions here |
 //! | [erase_sector](crate::erase_sector) | 36 |
+//! | [erase_sectors](crate::erase_sectors) | 36 for each sector: [erase_sectors_accesses] |
 //! | [new](crate::new) | 12; 36 where something is asked for; 60 where it has to be written |
 //! | [set_write_protection](crate::set_write_protection) | 48 |
 //! | [write_status](crate::write_status), [write_status_and_config_register](crate::write_status_and_config_register) | 24 |
@@ -29,6 +30,11 @@ pub const fn program_accesses(length: u64) -> u64 {
 /// Accesses of [write_pages](crate::write_pages): each chunk is a program.
 pub const fn write_pages_accesses(length: u64) -> u64 {
     length + 36 * length.div_ceil(CHUNK)
+}
+
+/// Accesses of [erase_sectors](crate::erase_sectors): for each sector a write enable, the erase command, the first status read.
+pub const fn erase_sectors_accesses(sectors: u64) -> u64 {
+    36 * sectors
 }
 
 /// Accesses of [read_page_read](crate::read_page_read), and of [read_fast_read](crate::read_fast_read) with or without a dummy

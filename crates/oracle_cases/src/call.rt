@@ -10,6 +10,7 @@ use qspi_abi::QspiLongIdRan;
 use qspi_abi::QspiPagesRan;
 use qspi_abi::QspiPreset;
 use qspi_abi::QspiRan;
+use qspi_abi::QspiSectorsRan;
 use qspi_abi::QspiValueRan;
 
 // What the memory holds beforehand.
@@ -17,34 +18,51 @@ const UNTOUCHED: u32 = 0xA5A5_5A5A;
 
 const UNTOUCHED_BYTE: u8 = 0x5A;
 
-// A call on these replies; the clock calls have their numbers there.
-pub fn run(number: usize, record: Record, replies: &[u32]) {
+// A call on these replies; the clock calls have their numbers there, and one kind has a list of sectors.
+pub fn run(number: usize, record: Record, list: &[u32], replies: &[u32]) {
     let mut data = [0u8; 768];
     let mut buffer = [UNTOUCHED_BYTE; 768];
     let mut log = [UNTOUCHED; 4096];
-    report(number, record, replies, &mut data, &mut buffer, &mut log);
+    report(
+        number,
+        record,
+        list,
+        replies,
+        &mut data,
+        &mut buffer,
+        &mut log,
+    );
 }
 
 fn report(
     number: usize,
     record: Record,
+    list: &[u32],
     replies: &[u32],
     data: &mut [u8],
     buffer: &mut [u8],
     log: &mut [u32],
 ) {
     record::fill(data, record.first);
-    let ended = lent(record, replies, data, buffer, log);
+    let ended = lent(record, list, replies, data, buffer, log);
     print::line(number, record.kind, ended, log, buffer);
 }
 
 // The call is lent as much of the memory as the record says.
-fn lent(record: Record, replies: &[u32], data: &[u8], buffer: &mut [u8], log: &mut [u32]) -> Ended {
+fn lent(
+    record: Record,
+    list: &[u32],
+    replies: &[u32],
+    data: &[u8],
+    buffer: &mut [u8],
+    log: &mut [u32],
+) -> Ended {
     let len = record::least(record.length, data.len());
     let bytes = record::least(record.length, buffer.len());
     let room = record::least(record.room, log.len());
     call(
         record,
+        list,
         &data[0..len],
         &mut buffer[0..bytes],
         replies,
@@ -52,12 +70,20 @@ fn lent(record: Record, replies: &[u32], data: &[u8], buffer: &mut [u8], log: &m
     )
 }
 
-fn call(record: Record, data: &[u8], buffer: &mut [u8], replies: &[u32], log: &mut [u32]) -> Ended {
+fn call(
+    record: Record,
+    list: &[u32],
+    data: &[u8],
+    buffer: &mut [u8],
+    replies: &[u32],
+    log: &mut [u32],
+) -> Ended {
     let kind = record.kind;
     match kind {
         0..=7 => controller_call(record, replies, log),
         8..=12 => command_call(record, replies, log),
         13..=16 => register_call(kind, replies, log),
+        22 => sectors_end(qspi_abi::qspi_erase_sectors(list, replies, log)),
         _ => array_call(record, data, buffer, replies, log),
     }
 }
@@ -193,7 +219,7 @@ fn end(ran: QspiRan) -> Ended {
         values: NONE,
         used: ran.used,
         replies: ran.replies,
-        programmed: 0,
+        finished: 0,
     }
 }
 
@@ -204,7 +230,19 @@ fn pages_end(ran: QspiPagesRan) -> Ended {
         values: NONE,
         used: ran.used,
         replies: ran.replies,
-        programmed: ran.programmed,
+        finished: ran.programmed,
+    }
+}
+
+// The one value is the place.
+fn sectors_end(ran: QspiSectorsRan) -> Ended {
+    Ended {
+        answer: ran.answer,
+        count: 1,
+        values: [ran.place, 0, 0, 0, 0, 0, 0, 0, 0],
+        used: ran.used,
+        replies: ran.replies,
+        finished: ran.finished,
     }
 }
 
@@ -215,7 +253,7 @@ fn value_end(ran: QspiValueRan) -> Ended {
         values: [ran.value, 0, 0, 0, 0, 0, 0, 0, 0],
         used: ran.used,
         replies: ran.replies,
-        programmed: 0,
+        finished: 0,
     }
 }
 
@@ -226,7 +264,7 @@ fn preset_end(preset: QspiPreset) -> Ended {
         values: [preset.value, 0, 0, 0, 0, 0, 0, 0, 0],
         used: 0,
         replies: 0,
-        programmed: 0,
+        finished: 0,
     }
 }
 
@@ -247,7 +285,7 @@ fn clock_end(config: QspiClockConfig) -> Ended {
         ],
         used: 0,
         replies: 0,
-        programmed: 0,
+        finished: 0,
     }
 }
 
@@ -275,7 +313,7 @@ fn id_end(ran: QspiIdRan) -> Ended {
         ],
         used: ran.used,
         replies: ran.replies,
-        programmed: 0,
+        finished: 0,
     }
 }
 
@@ -299,6 +337,6 @@ fn long_id_end(ran: QspiLongIdRan) -> Ended {
         ],
         used: ran.used,
         replies: ran.replies,
-        programmed: 0,
+        finished: 0,
     }
 }

@@ -9,17 +9,17 @@
 //    2  first argument, by kind
 //    3  second argument, by kind
 //    4  address or word (four bytes)
-//    8  length of the data or of the buffer (two bytes, up to 768)
+//    8  length of the data, of the buffer or of the list (two bytes, up to 768)
 //   10  room of the log in words (two bytes, up to 4096)
-//   12  length of the body (two bytes, up to 1024)
-//   14  the body: a byte for each reply, its place in the dictionary; of the clock calls their numbers,
-//       four bytes each
+//   12  length of the body (two bytes)
+//   14  the body: a byte for each reply, up to 1024, its place in the dictionary; of the clock calls their
+//       numbers, four bytes each; of `erase_sectors` its list before the replies, four bytes an entry
 //
 // Data byte i is 7 i plus the first argument, modulo 256. Log and buffer are filled with one word and one
 // byte beforehand. Of an input that is no such list, `BAD` and the record's number are printed, and
-// nothing after it: the record is short, its kind unknown, a length past the limit or a reply past the
-// dictionary. 0 is also the number of a bad dictionary and of an input of 98,304 bytes or more. The
-// stored list ends in a short record.
+// nothing after it: the record is short, its kind unknown, a length past the limit, a reply past the
+// dictionary or a list past the body. 0 is also the number of a bad dictionary and of an input of 98,304
+// bytes or more. The stored list ends in a short record.
 ghost use Prim.Native.Nat.{_≤_};
 ghost use lib.ListN.{length};
 use libc::STDIN_FILENO;
@@ -91,8 +91,9 @@ fn replayed(number: usize, record: Record, body: &[u8], words: &[u32]) -> bool {
     if !record::within(record) {
         return false;
     }
+    let mut list = [0u32; 768];
     let mut replies = [0u32; 1024];
-    answered(number, record, body, words, &mut replies)
+    answered(number, record, body, words, &mut list, &mut replies)
 }
 
 fn answered(
@@ -100,17 +101,24 @@ fn answered(
     record: Record,
     body: &[u8],
     words: &[u32],
+    list: &mut [u32],
     replies: &mut [u32],
 ) -> bool {
     if record.kind < 2 {
         record::words_of(body, replies);
-        call::run(number, record, replies);
+        call::run(number, record, list, replies);
         return true;
     }
-    if !record::replies_of(body, words, replies) {
+    let from = record::listed(record) * 4;
+    if body.len() < from {
         return false;
     }
-    let given = record::least(body.len(), replies.len());
-    call::run(number, record, &replies[0..given]);
+    record::words_of(&body[0..from], list);
+    if !record::replies_of(&body[from..], words, replies) {
+        return false;
+    }
+    let entries = record::least(record::listed(record), list.len());
+    let given = record::least(body.len() - from, replies.len());
+    call::run(number, record, &list[0..entries], &replies[0..given]);
     true
 }

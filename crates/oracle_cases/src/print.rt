@@ -1,15 +1,16 @@
-// The line of a call: number, name, answer, used log words, used replies, bytes programmed, digests of all
-// of the log and of all of the buffer, lent or not, and the values.
+// The line of a call: number, name, answer, used log words, used replies, bytes programmed or sectors
+// erased, digests of all of the log and of all of the buffer, lent or not, and the values.
 use libc::STDOUT_FILENO;
 
-// How a call ended. It has so many values by its kind, zeros where it is not done.
+// How a call ended. It has so many values by its kind, zeros where it is not done; a list of sectors has
+// the place that is refused. `finished` are the bytes or sectors that ended clean.
 pub struct Ended {
     pub answer: u32,
     pub count: usize,
     pub values: [u32; 9],
     pub used: usize,
     pub replies: usize,
-    pub programmed: usize,
+    pub finished: usize,
 }
 
 pub const NONE: [u32; 9] = [0, 0, 0, 0, 0, 0, 0, 0, 0];
@@ -59,6 +60,7 @@ fn name(kind: u8) {
         write_pages   \
         read_page_read\
         read_fast_read\
+        erase_sectors \
     ";
     entry(names, kind as usize * 14);
 }
@@ -127,7 +129,7 @@ pub fn line(number: usize, kind: u8, ended: Ended, log: &[u32], buffer: &[u8]) {
     decimal(ended.answer as usize);
     decimal(ended.used);
     decimal(ended.replies);
-    decimal(ended.programmed);
+    decimal(ended.finished);
     hex(digest(log), 10);
     hex(byte_digest(buffer), 10);
     values(list, ended.count);

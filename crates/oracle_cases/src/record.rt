@@ -4,6 +4,9 @@ ghost use Prim.Native.Nat.{_≤_, _<_};
 // Bytes before the body.
 pub const HEADER: usize = 14;
 
+// The kind with a list of sectors, the last one.
+pub const SECTORS: u8 = 22;
+
 pub struct Record {
     pub kind: u8,
     pub flags: u8,
@@ -60,7 +63,7 @@ pub fn header(s: &[u8]) -> Record
 
 // A known kind, the numbers of a clock call, and lengths that the memory here has.
 pub fn within(record: Record) -> bool {
-    if 21 < record.kind {
+    if SECTORS < record.kind {
         return false;
     }
     if record.kind == 0 {
@@ -73,6 +76,16 @@ pub fn within(record: Record) -> bool {
         return false;
     }
     record.room <= 4096
+}
+
+// Words of the list that stands before the replies: one kind has one.
+pub fn listed(record: Record) -> usize
+    ensures most { λ r. ⌜ r ≤ 768 ⌝ }
+{
+    if record.kind != SECTORS {
+        return 0;
+    }
+    least(record.length, 768)
 }
 
 // A flag, by its bit's value; 0 is no bit.

@@ -1,4 +1,4 @@
-//! A call of document 01, and how it ended. Both sides of the comparison run a [Call] and give an [Ended].
+//! A call of document 01 or 02, and how it ended. Both sides of the comparison run a [Call] and give an [Ended].
 
 /// A call by the Rust's name, with its inputs as numbers.
 #[derive(Clone, Debug, PartialEq, Eq)]
@@ -74,6 +74,10 @@ pub enum Call {
         dummy_byte: bool,
         length: usize,
     },
+    /// Document 02's list (U1), which the Rust does not have.
+    EraseSectors {
+        list: Vec<u32>,
+    },
 }
 
 /// Clocks in hertz.
@@ -85,10 +89,12 @@ pub struct Clocks {
     pub cpu_1x_clk: u32,
 }
 
-/// How a call ended. `answer` is document 01's number, 0 where it is done.
-#[derive(Clone, Debug, PartialEq, Eq)]
+/// How a call ended. `answer` is the papers' number, 0 where it is done.
+#[derive(Clone, Debug, Default, PartialEq, Eq)]
 pub struct Ended {
     pub answer: u32,
+    /// The entry of a list, from 0, that 1, 2 or 32 refuses, else 0.
+    pub place: u32,
     /// The values of the answer, empty where the call is not done:
     /// - clocks: source code, reference divisor, 1 with loopback else 0, baud rate divisor (2 to 256)
     /// - linear mode config: the word
@@ -104,4 +110,6 @@ pub struct Ended {
     pub replies: usize,
     /// Bytes of `write_pages` that the answer counts, else 0.
     pub programmed: usize,
+    /// Sectors of a list that the answer counts, else 0.
+    pub finished: usize,
 }

@@ -161,6 +161,10 @@ fn port(call: &Call, replies: &[u32], log: &mut [u32], buffer: &mut [u8]) -> Ans
         Call::ReadFastRead { addr, dummy_byte, .. } => {
             plain(qspi::read_fast_read(addr, dummy_byte, buffer, replies, log))
         }
+        Call::EraseSectors { ref list } => {
+            let ran = qspi::erase_sectors(list, replies, log);
+            (ran.answer, ran.used, ran.replies)
+        }
         _ => unreachable!("{} is not measured", Kind::of(call).name()),
     }
 }
@@ -176,6 +180,11 @@ fn hertz(clocks: Clocks) -> qspi::Clocks {
 
 fn write_pages(length: usize) -> Call {
     Call::WritePages { addr: 0, data: Rng::new(2).bytes(length) }
+}
+
+/// The Rust's side erases one sector after the other; it has no list to test.
+fn erase_sectors(count: u32) -> Call {
+    Call::EraseSectors { list: (0..count).map(|sector| sector << 16).collect() }
 }
 
 /// Document 01's clocks.
@@ -199,6 +208,8 @@ fn benches() -> Vec<(&'static str, Call)> {
         ("read_fast_read 4 KiB", Call::ReadFastRead { addr: 0, dummy_byte: true, length: 4 << 10 }),
         ("read_fast_read 1 MiB", Call::ReadFastRead { addr: 0, dummy_byte: true, length: 1 << 20 }),
         ("erase_sector", Call::EraseSector { addr: 0 }),
+        ("erase_sectors, 2", erase_sectors(2)),
+        ("erase_sectors, 255", erase_sectors(255)),
         ("write_enable", Call::WriteEnable),
         ("read_status_register_1", Call::ReadStatusRegister1),
         ("read_rdid_extended", Call::ReadRdidExtended),

@@ -52,6 +52,8 @@ pub enum Cuts {
     Random(usize),
     /// At every place where the run is short enough, else at random ones.
     Every,
+    /// At every place, however long the run is.
+    All,
 }
 
 /// A call with what it runs on.
@@ -62,6 +64,10 @@ pub struct Probe {
     pub cuts: Cuts,
     pub seed: u64,
 }
+
+/// Log words that a run is lent at most beyond its need; more where it makes no access, so that one which did would be seen.
+const SPARE: usize = 6;
+const SPARE_OF_A_REFUSAL: usize = 80;
 
 /// A run that is no agreement.
 #[derive(Clone, Debug)]
@@ -110,6 +116,7 @@ impl Checker {
         let accesses = live.log.len() / 2;
         match probe.cuts {
             Cuts::Once | Cuts::Whole => Ok(()),
+            Cuts::All => self.every_cut(&live),
             Cuts::Every if accesses <= self.limits.every => self.every_cut(&live),
             Cuts::Every => self.random_cuts(&live, 0, self.limits.cuts, &mut rng),
             Cuts::Random(count) => self.random_cuts(&live, 0, count, &mut rng),
@@ -155,7 +162,8 @@ impl Checker {
             let ran = self.compare(live.cut(live.reads, live.log.len()))?;
             assert!(ran.log == live.log, "the Rust does not repeat its run: {:?}", live.call);
         }
-        self.compare(live.cut(live.list.len(), live.log.len() + rng.index(6)))?;
+        let spare = if live.log.is_empty() { SPARE_OF_A_REFUSAL } else { SPARE };
+        self.compare(live.cut(live.list.len(), live.log.len() + rng.index(spare)))?;
         Ok(())
     }
 

@@ -139,6 +139,7 @@ fn shown(call: &Call) -> String {
         Call::WritePages { addr, data } => {
             format!("WritePages {{ addr: {addr:X}, data: {} bytes {} }}", data.len(), some(data))
         }
+        Call::EraseSectors { list } => format!("EraseSectors {{ list: {} entries {} }}", list.len(), some(list)),
         call => format!("{call:X?}"),
     }
 }

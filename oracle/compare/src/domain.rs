@@ -5,6 +5,7 @@
 //! - No zero divisor is reached. A zero that stands behind a refusal is not reached, and is compared.
 //! - Loopback targets are up to 2,147,483,647 Hz, because the Rust doubles them.
 //! - Fields are within their width.
+//! - Of a list of sectors the papers' rules decide what is refused, and the Rust is handed what is not: every list is compared.
 
 use call::{Call, Clocks};
 

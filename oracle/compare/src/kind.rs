@@ -46,6 +46,7 @@ kinds! {
     WritePages = "write_pages",
     ReadPageRead = "read_page_read",
     ReadFastRead = "read_fast_read",
+    EraseSectors = "erase_sectors",
 }
 
 impl Kind {
@@ -58,6 +59,7 @@ impl Kind {
         match self {
             Kind::LinearModeConfig => 0,
             Kind::EraseSector | Kind::Program | Kind::WritePages | Kind::ReadPageRead | Kind::ReadFastRead => 4,
+            Kind::EraseSectors => 4,
             _ => 1,
         }
     }

@@ -1,4 +1,4 @@
-//! What a log shows by itself: bytes of the chunks that ended clean, and which turns a run took. It goes by the writes of 1 and
+//! What a log shows by itself: chunks and sectors that ended clean, and which turns a run took. It goes by the writes of 1 and
 //! 0 to the enable register, and knows nothing of how either driver is made.
 
 const READ: u32 = 0x100;
@@ -9,6 +9,7 @@ const TX_DATA: [u32; 4] = [0x1C, 0x80, 0x84, 0x88];
 
 const RX_WAITS: u32 = 1 << 4;
 const PAGE_PROGRAM: u8 = 0x02;
+const SECTOR_ERASE: u8 = 0xD8;
 const READ_STATUS: u8 = 0x05;
 const BUSY: u8 = 1;
 const ERASE_ERROR: u8 = 1 << 5;
@@ -18,7 +19,9 @@ const PROGRAM_ERROR: u8 = 1 << 6;
 #[derive(Clone, Copy, Debug, Default, PartialEq, Eq)]
 pub struct Observed {
     /// Bytes of the page programs whose status loop ended clean, the closing of the last status transfer included.
-    pub finished: usize,
+    pub programmed: usize,
+    /// Sector erases whose status loop ended so.
+    pub erased: usize,
     /// RX words taken outside a transfer.
     pub drains: usize,
     /// Status polls that showed busy without an error.
@@ -39,12 +42,28 @@ struct Transfer {
     reply: Option<u32>,
 }
 
+/// What is out and has no clean status yet.
+#[derive(Clone, Copy, Debug)]
+enum Work {
+    Program { bytes: usize },
+    Erase,
+}
+
+impl Work {
+    /// The bit that says it failed.
+    const fn error(self) -> u8 {
+        match self {
+            Work::Program { .. } => PROGRAM_ERROR,
+            Work::Erase => ERASE_ERROR,
+        }
+    }
+}
+
 #[derive(Clone, Copy, Debug, Default)]
 struct Observer {
     seen: Observed,
     transfer: Option<Transfer>,
-    /// Bytes of a page program that is out and whose status is not yet known.
-    pending: Option<usize>,
+    pending: Option<Work>,
     /// The last access was an interrupt status read that showed a word.
     shown: bool,
 }
@@ -100,7 +119,8 @@ impl Observer {
             return;
         };
         match (transfer.command, transfer.reply) {
-            (Some(PAGE_PROGRAM), _) => self.pending = Some(4 * transfer.data_words),
+            (Some(PAGE_PROGRAM), _) => self.pending = Some(Work::Program { bytes: 4 * transfer.data_words }),
+            (Some(SECTOR_ERASE), _) => self.pending = Some(Work::Erase),
             (Some(READ_STATUS), Some(reply)) => self.status((reply >> 24) as u8),
             _ => {}
         }
@@ -114,11 +134,18 @@ impl Observer {
         if busy && status & (ERASE_ERROR | PROGRAM_ERROR) != 0 {
             self.seen.errors_while_busy += 1;
         }
-        if status & PROGRAM_ERROR != 0 {
-            self.pending = None;
-        } else if !busy {
-            self.seen.finished += self.pending.take().unwrap_or(0);
+        match self.pending {
+            Some(work) if status & work.error() != 0 => self.pending = None,
+            Some(Work::Program { bytes }) if !busy => self.finish(bytes, 0),
+            Some(Work::Erase) if !busy => self.finish(0, 1),
+            _ => {}
         }
+    }
+
+    fn finish(&mut self, bytes: usize, sectors: usize) {
+        self.pending = None;
+        self.seen.programmed += bytes;
+        self.seen.erased += sectors;
     }
 }
 
@@ -126,43 +153,38 @@ impl Observer {
 mod tests {
     use super::*;
 
-    /// A page program of two data words and a status transfer with this reply.
-    fn chunk(status: u32) -> Vec<u32> {
-        vec![
-            0x14,
-            1,
-            0x1C,
-            0x0001_0002,
-            0x1C,
-            7,
-            0x1C,
-            8,
-            0x14,
-            0, //
-            0x14,
-            1,
-            0x84,
-            5,
-            0x104,
-            0x10,
-            0x120,
-            status << 24,
-            0x14,
-            0,
-        ]
+    /// A page program of two data words.
+    const PROGRAM: [u32; 10] = [0x14, 1, 0x1C, 0x0001_0002, 0x1C, 7, 0x1C, 8, 0x14, 0];
+    const ERASE: [u32; 6] = [0x14, 1, 0x1C, 0x0000_05D8, 0x14, 0];
+
+    /// The work and a status transfer with this reply.
+    fn work(command: &[u32], status: u32) -> Vec<u32> {
+        [command, &[0x14, 1, 0x84, 5, 0x104, 0x10, 0x120, status << 24, 0x14, 0]].concat()
     }
 
     #[test]
     fn a_clean_status_finishes_a_chunk() {
-        assert_eq!(observe(&chunk(0)).finished, 8);
-        assert_eq!(observe(&chunk(0x20)).finished, 8);
-        assert_eq!(observe(&chunk(0x01)).finished, 0);
-        assert_eq!(observe(&chunk(0x40)).finished, 0);
+        let programmed = [0x00, 0x20, 0x01, 0x40].map(|status| observe(&work(&PROGRAM, status)).programmed);
+        assert_eq!(programmed, [8, 8, 0, 0]);
+    }
+
+    #[test]
+    fn a_clean_status_finishes_a_sector() {
+        let erased = [0x00, 0x40, 0x01, 0x20, 0x21, 0x41].map(|status| observe(&work(&ERASE, status)).erased);
+        assert_eq!(erased, [1, 1, 0, 0, 0, 0]);
     }
 
     #[test]
     fn the_closing_belongs_to_it() {
-        let log = chunk(0);
-        assert_eq!(observe(&log[..log.len() - 2]).finished, 0);
+        let (chunk, sector) = (work(&PROGRAM, 0), work(&ERASE, 0));
+        assert_eq!(observe(&chunk[..chunk.len() - 2]).programmed, 0);
+        assert_eq!(observe(&sector[..sector.len() - 2]).erased, 0);
+    }
+
+    #[test]
+    fn a_sector_counts_once_and_a_failed_one_never() {
+        let status = &work(&ERASE, 0)[ERASE.len()..];
+        assert_eq!(observe(&[&work(&ERASE, 0), status, &work(&ERASE, 1), status].concat()).erased, 2);
+        assert_eq!(observe(&[&work(&ERASE, 0x20), status].concat()).erased, 0);
     }
 }

@@ -15,8 +15,8 @@ usage: compare [--long | --mutants | --bench | --once BYTES] [--calls N] [--seed
   --kinds A,B      these kinds of call alone
   --workspace DIR  where the oracle's workspace is, for the wrong drivers";
 
-const DEFAULT_CALLS: u64 = 1_000_000;
-const LONG_CALLS: u64 = 12_000_000;
+const DEFAULT_CALLS: u64 = 1_050_000;
+const LONG_CALLS: u64 = 13_200_000;
 const DEFAULT_SEED: u64 = 20_240_601;
 
 /// What is done.

@@ -53,10 +53,11 @@ fn ran(call: &Call, source: Box<dyn Source>, room: usize, buffer: &mut [u8]) -> 
     }
 }
 
-/// The Rust's `write_pages` counts nothing: the bytes are those of the chunks that ended clean in its log.
+/// The Rust counts nothing: the bytes are those of the chunks, and the sectors those of a list, that ended clean in its log.
 fn counted(call: &Call, ended: Ended, log: &[u32]) -> Ended {
     match call {
-        Call::WritePages { .. } => Ended { programmed: observe(log).finished, ..ended },
+        Call::WritePages { .. } => Ended { programmed: observe(log).programmed, ..ended },
+        Call::EraseSectors { .. } => Ended { finished: observe(log).erased, ..ended },
         _ => ended,
     }
 }

@@ -2,7 +2,7 @@
 
 use crate::junk::Junk;
 use call::{Call, Ended};
-use qspi::{Clocks, IdRan, LongIdRan, PagesRan, Ran, ValueRan};
+use qspi::{Clocks, IdRan, LongIdRan, PagesRan, Ran, SectorsRan, ValueRan};
 
 /// Runs `call` over replies and a log. A read goes into `buffer`, which has the read's length.
 pub fn run(call: &Call, replies: &[u32], log: &mut [u32], buffer: &mut [u8], junk: Junk) -> Ended {
@@ -51,6 +51,7 @@ pub fn run(call: &Call, replies: &[u32], log: &mut [u32], buffer: &mut [u8], jun
         Call::ReadFastRead { addr, dummy_byte, .. } => {
             plain(qspi::read_fast_read(addr, dummy_byte, buffer, replies, log))
         }
+        Call::EraseSectors { ref list } => sectors(qspi::erase_sectors(junk.lent(list), replies, log)),
     }
 }
 
@@ -66,7 +67,7 @@ fn hertz(clocks: call::Clocks) -> Clocks {
 /// Values of a call that is not done are zeros, which leaves none. Others stay, and differ from the Rust's.
 fn ended(answer: u32, values: Vec<u32>, used: usize, replies: usize) -> Ended {
     let none = answer != 0 && values.iter().all(|value| *value == 0);
-    Ended { answer, values: if none { Vec::new() } else { values }, used, replies, programmed: 0 }
+    Ended { answer, values: if none { Vec::new() } else { values }, used, replies, ..Ended::default() }
 }
 
 fn plain(ran: Ran) -> Ended {
@@ -75,6 +76,11 @@ fn plain(ran: Ran) -> Ended {
 
 fn pages(ran: PagesRan) -> Ended {
     Ended { programmed: ran.programmed, ..ended(ran.answer, Vec::new(), ran.used, ran.replies) }
+}
+
+fn sectors(ran: SectorsRan) -> Ended {
+    let SectorsRan { answer, place, finished, used, replies } = ran;
+    Ended { place, finished, ..ended(answer, Vec::new(), used, replies) }
 }
 
 fn value(ran: ValueRan) -> Ended {

@@ -144,6 +144,7 @@ fn smaller_calls(call: &Call) -> Vec<Call> {
             let lower = words(addr).into_iter().map(|addr| Call::ReadFastRead { addr, dummy_byte, length });
             shorter.chain(lower).collect()
         }
+        Call::EraseSectors { list } => smaller_lists(&list),
         Call::EraseSector { addr } => words(addr).into_iter().map(|addr| Call::EraseSector { addr }).collect(),
         Call::EnableLinearAddressing { config } => {
             words(config).into_iter().map(|config| Call::EnableLinearAddressing { config }).collect()
@@ -154,6 +155,20 @@ fn smaller_calls(call: &Call) -> Vec<Call> {
         Call::Calculate { .. } | Call::CalculateWithLoopback { .. } => smaller_clock_calls(call),
         _ => Vec::new(),
     }
+}
+
+/// Entries up to which a list is tried without each of them, and with lower ones.
+const SHORT_LIST: usize = 8;
+
+/// Shorter lists, lists that lack one entry, and lists with a lower one.
+fn smaller_lists(list: &[u32]) -> Vec<Call> {
+    let mut lists: Vec<Vec<u32>> = numbers(list.len()).into_iter().map(|length| list[..length].to_vec()).collect();
+    lists.extend(numbers(list.len()).into_iter().map(|length| list[list.len() - length..].to_vec()));
+    for place in 0..if list.len() <= SHORT_LIST { list.len() } else { 0 } {
+        lists.push([&list[..place], &list[place + 1..]].concat());
+        lists.extend(words(list[place]).into_iter().map(|addr| [&list[..place], &[addr], &list[place + 1..]].concat()));
+    }
+    lists.into_iter().map(|list| Call::EraseSectors { list }).collect()
 }
 
 fn smaller_registers(sr: u8, cr: u8) -> Vec<Call> {
@@ -265,5 +280,15 @@ mod tests {
         assert!(smaller.contains(&Call::Program { addr: 0x100, data: vec![1; 4] }));
         assert!(smaller.contains(&Call::Program { addr: 0x80, data: vec![1; 8] }));
         assert!(!smaller.contains(&call));
+    }
+
+    #[test]
+    fn smaller_lists_differ() {
+        let list = vec![0x1_0000, 0x8, 0x3_0000];
+        let smaller = smaller_lists(&list);
+        for list in [vec![0x1_0000, 0x8], vec![0x1_0000, 0x3_0000], vec![0x1_0000, 0x4, 0x3_0000]] {
+            assert!(smaller.contains(&Call::EraseSectors { list }));
+        }
+        assert!(!smaller.contains(&Call::EraseSectors { list }));
     }
 }

@@ -75,8 +75,7 @@ pub struct Outcome {
 
 impl Outcome {
     pub fn empty() -> Self {
-        let ended = Ended { answer: 0, values: Vec::new(), used: 0, replies: 0, programmed: 0 };
-        Outcome { ended, guarded_log: Vec::new(), guarded_buffer: Vec::new(), junk: Junk::default() }
+        Outcome { ended: Ended::default(), guarded_log: Vec::new(), guarded_buffer: Vec::new(), junk: Junk::default() }
     }
 
     /// The log that was lent.
@@ -198,9 +197,11 @@ fn differs(what: String, oracle: impl fmt::Display, port: impl fmt::Display) -> 
 fn ended_difference(oracle: &Ended, port: &Ended) -> Option<Difference> {
     let counts = [
         ("answer", oracle.answer as usize, port.answer as usize),
+        ("place", oracle.place as usize, port.place as usize),
         ("log words used", oracle.used, port.used),
         ("replies used", oracle.replies, port.replies),
         ("bytes programmed", oracle.programmed, port.programmed),
+        ("sectors finished", oracle.finished, port.finished),
     ];
     if let Some((what, oracle, port)) = counts.into_iter().find(|(_, oracle, port)| oracle != port) {
         return differs(what.to_owned(), oracle, port);

@@ -7,9 +7,9 @@ use crate::sides::Case;
 use call::{Call, Ended};
 use std::fmt::Write;
 
-const ANSWERS: usize = 32;
+const ANSWERS: usize = 34;
 
-/// Answers that the Rust, or a stop of its recorder, can give to a kind of call.
+/// Answers that the Rust, a stop of its recorder, or the rules of a list can give to a kind of call.
 const fn expected(kind: Kind) -> &'static [u32] {
     match kind {
         Kind::Calculate => &[0, 6, 7],
@@ -19,6 +19,7 @@ const fn expected(kind: Kind) -> &'static [u32] {
         Kind::EraseSector => &[0, 1, 2, 21, 23, 24],
         Kind::Program => &[0, 1, 3, 4, 5, 22, 23, 24],
         Kind::WritePages => &[0, 1, 4, 5, 22, 23, 24],
+        Kind::EraseSectors => &[0, 1, 2, 21, 23, 24, 32, 33],
         _ => &[0, 23, 24],
     }
 }
@@ -45,6 +46,17 @@ marks! {
     CrossesAfterChunks = "5 after finished chunks",
     FailedAfterChunks = "22 after finished chunks",
     StoppedAfterChunks = "23 or 24 after finished chunks",
+    BusyList = "busy polls of a list",
+    ErrorInList = "an error bit and busy together, list",
+    FailedAfterSectors = "21 after finished sectors",
+    StoppedAfterSectors = "23 or 24 after finished sectors",
+    BothRules = "an entry that meets 1 and 2",
+    BadAfterRepeat = "1 or 2 behind a repeat",
+    RepeatAtTheEnd = "32 at place 255",
+    TooLongAndBad = "33 although the first entry is bad",
+    EverySector = "all 255 sectors in one list",
+    FailedLast = "21 after 254 sectors",
+    LargestList = "a list of more than 16,777,216 entries",
     SeveralChunksRead = "a read of several chunks",
     InterfaceType11 = "11 for the memory interface type",
     Density11 = "11 for the density",
@@ -70,6 +82,7 @@ marks! {
     EmptyLog = "an empty log without memory",
     EmptyData = "empty data without memory",
     EmptyBuffer = "an empty buffer without memory",
+    EmptyList = "an empty list without memory",
 }
 
 /// What was run and seen.
@@ -102,6 +115,7 @@ impl Tally {
             *count += 1;
         }
         self.mark_chunks(&case.call, ended);
+        self.mark_sectors(&case.call, ended);
         self.mark_ids(ended);
         self.mark_long(&case.call, ended);
         self.mark_junk(case);
@@ -124,6 +138,10 @@ impl Tally {
                 self.mark(Mark::BusyProgram, seen.busy > 0);
                 self.mark(Mark::ErrorWhileProgramming, seen.errors_while_busy > 0);
             }
+            Kind::EraseSectors => {
+                self.mark(Mark::BusyList, seen.busy > 0);
+                self.mark(Mark::ErrorInList, seen.errors_while_busy > 0);
+            }
             _ => {}
         }
     }
@@ -141,6 +159,31 @@ impl Tally {
             (Call::WritePages { .. }, 23 | 24) => self.mark(Mark::StoppedAfterChunks, after),
             (Call::ReadPageRead { length, .. } | Call::ReadFastRead { length, .. }, 0) => {
                 self.mark(Mark::SeveralChunksRead, *length > 248);
+            }
+            _ => {}
+        }
+    }
+
+    fn mark_sectors(&mut self, call: &Call, ended: &Ended) {
+        let Call::EraseSectors { list } = call else {
+            return;
+        };
+        let place = ended.place as usize;
+        match ended.answer {
+            0 => self.mark(Mark::EverySector, ended.finished == 255),
+            1 | 2 => {
+                self.mark(Mark::BothRules, ended.answer == 1 && list[place] % 0x1_0000 != 0);
+                self.mark(Mark::BadAfterRepeat, (1..place).any(|later| list[..later].contains(&list[later])));
+            }
+            21 => {
+                self.mark(Mark::FailedAfterSectors, ended.finished > 0);
+                self.mark(Mark::FailedLast, ended.finished == 254);
+            }
+            23 | 24 => self.mark(Mark::StoppedAfterSectors, ended.finished > 0),
+            32 => self.mark(Mark::RepeatAtTheEnd, place == 255),
+            33 => {
+                self.mark(Mark::TooLongAndBad, list[0] % 0x1_0000 != 0);
+                self.mark(Mark::LargestList, list.len() > 1 << 24);
             }
             _ => {}
         }
@@ -181,6 +224,7 @@ impl Tally {
             Call::ReadPageRead { length, .. } | Call::ReadFastRead { length, .. } => {
                 self.mark(Mark::EmptyBuffer, *length == 0);
             }
+            Call::EraseSectors { list } => self.mark(Mark::EmptyList, list.is_empty()),
             _ => {}
         }
         let logged = Kind::of(&case.call).has_log();

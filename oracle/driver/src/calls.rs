@@ -74,6 +74,7 @@ pub fn call_published(call: &Call, flash: &mut Flash, buffer: &mut [u8]) -> (u32
             flash.read_fast_read(*addr, &mut buffer[..*length], *dummy_byte);
         }
         Call::EraseSector { addr } => return without_values(erase_answer(flash.erase_sector(*addr))),
+        Call::EraseSectors { list } => return without_values(erase_each(flash, list)),
         Call::Program { addr, data } => return without_values(program_answer(flash.program(*addr, data))),
         Call::WritePages { addr, data } => return without_values(program_answer(flash.write_pages(*addr, data))),
         _ => return call_with_values(call, flash),
@@ -221,6 +222,13 @@ fn clock_values(config: &ClockConfig) -> Values {
     let loopback = config.baud_rate_config == BaudRateConfig::WithLoopback;
     let divisor = config.baud_rate_config.baud_rate_divisor().divisor();
     [config.src_sel.raw_value().into(), config.ref_clk_div.into(), loopback.into(), divisor as u32].into()
+}
+
+/// One erase after the other, each on the replies and the driver that the one before left, up to the first that is not done.
+#[inline]
+fn erase_each(flash: &mut Flash, list: &[u32]) -> u32 {
+    let mut answers = list.iter().map(|addr| erase_answer(flash.erase_sector(*addr)));
+    answers.find(|answer| *answer != DONE).unwrap_or(DONE)
 }
 
 #[inline]

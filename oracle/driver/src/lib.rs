@@ -11,8 +11,10 @@ use recorder::{Outcome, Recorded};
 
 pub use calls::{Flash, Values, call_published};
 pub use recorder::Source;
+pub use refusal::{Refusal, refusal};
 
 mod calls;
+mod refusal;
 
 /// The answer of a call that panicked, which is no number of document 01.
 pub const PANICKED: u32 = u32::MAX;
@@ -37,7 +39,15 @@ thread_local! {
 ///
 /// The log holds the call's own accesses: the driver value is made before, in a recording of its own. A call that
 /// stopped or panicked takes its driver value with it.
+///
+/// A list that document 02 refuses is not handed to the Rust, which would erase what stands before the refused entry.
 pub fn run(call: &Call, source: Box<dyn Source>, room: usize, buffer: &mut [u8]) -> Ran {
+    if let Call::EraseSectors { list } = call
+        && let Some(Refusal { answer, place }) = refusal(list)
+    {
+        let ended = Ended { answer, place, ..Ended::default() };
+        return Ran { ended, log: Vec::new(), panic: None, source };
+    }
     let mut flash = FLASH.take().unwrap_or_else(new_flash);
     let recorded = recorder::record(source, room, || call_published(call, &mut flash, buffer));
     if matches!(recorded.outcome, Outcome::Returned(_)) {
@@ -63,7 +73,8 @@ fn ran(recorded: Recorded<(u32, Values)>) -> Ran {
         Outcome::Stopped(answer) => (answer, Vec::new(), None),
         Outcome::Panicked(message) => (PANICKED, Vec::new(), Some(message)),
     };
-    Ran { ended: Ended { answer, values, used: log.len(), replies, programmed: 0 }, log, panic, source }
+    let ended = Ended { answer, values, used: log.len(), replies, ..Ended::default() };
+    Ran { ended, log, panic, source }
 }
 
 fn describe<R>(outcome: &Outcome<R>) -> String {

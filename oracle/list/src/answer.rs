@@ -1,7 +1,7 @@
 //! What the Rust answers to a case, and the line that says so.
 
+use crate::finished::{programmed, sectors};
 use crate::kind;
-use crate::programmed::programmed;
 use call::{Call, Ended};
 use driver::Replies;
 use std::fmt::Write;
@@ -40,8 +40,13 @@ pub fn answered(case: &Case) -> Answered {
     let ran = driver::run(&case.call, Box::new(source), case.room, &mut buffer);
     assert!(ran.panic.is_none(), "out of the domain of equality: {:X?}: {:?}", case.call, ran.panic);
     let mut ended = ran.ended;
-    if let Call::WritePages { .. } = case.call {
-        ended.programmed = programmed(&ran.log);
+    match case.call {
+        Call::WritePages { .. } => ended.programmed = programmed(&ran.log),
+        Call::EraseSectors { .. } => {
+            ended.finished = sectors(&ran.log);
+            ended.values = vec![ended.place];
+        }
+        _ => {}
     }
     Answered { ended, log: ran.log, buffer }
 }
@@ -49,15 +54,16 @@ pub fn answered(case: &Case) -> Answered {
 impl Answered {
     /// The line of a case by its number and its kind's. A call that is not done has zeros for values.
     pub fn line(&self, number: usize, kind: usize) -> String {
-        let Ended { answer, values, used, replies, programmed } = &self.ended;
+        let Ended { answer, values, used, replies, programmed, finished, .. } = &self.ended;
         let untouched = iter::repeat_n(&UNTOUCHED, LOG_WORDS - self.log.len());
         let log = digest(self.log.iter().chain(untouched).map(|word| u64::from(*word)));
         let buffer = digest(self.buffer.iter().map(|byte| u64::from(*byte)));
-        let mut line = format!("{number} {:<14} {answer} {used} {replies} {programmed}", kind::NAMES[kind]);
+        let count = programmed + finished;
+        let mut line = format!("{number} {:<14} {answer} {used} {replies} {count}", kind::NAMES[kind]);
         write!(line, " {log:010x} {buffer:010x}").unwrap();
-        let count = kind::values(kind);
-        assert!(values.len() == if *answer == 0 { count } else { 0 });
-        for place in 0..count {
+        let most = kind::values(kind);
+        assert!(values.len() == if *answer == 0 || kind::names_a_place(kind) { most } else { 0 });
+        for place in 0..most {
             write!(line, " {:02x}", values.get(place).unwrap_or(&0)).unwrap();
         }
         line.push('\n');

@@ -2,7 +2,7 @@
 
 use call::Call;
 
-pub const NAMES: [&str; 22] = [
+pub const NAMES: [&str; 23] = [
     "calculate",
     "loopback",
     "linear_config",
@@ -25,6 +25,7 @@ pub const NAMES: [&str; 22] = [
     "write_pages",
     "read_page_read",
     "read_fast_read",
+    "erase_sectors",
 ];
 
 pub fn number(call: &Call) -> usize {
@@ -51,6 +52,7 @@ pub fn number(call: &Call) -> usize {
         Call::WritePages { .. } => 19,
         Call::ReadPageRead { .. } => 20,
         Call::ReadFastRead { .. } => 21,
+        Call::EraseSectors { .. } => 22,
     }
 }
 
@@ -58,13 +60,18 @@ pub fn number(call: &Call) -> usize {
 pub fn values(kind: usize) -> usize {
     match NAMES[kind] {
         "calculate" | "loopback" | "read_id" => 4,
-        "linear_config" | "initialize" | "read_status" | "read_config" => 1,
+        "linear_config" | "initialize" | "read_status" | "read_config" | "erase_sectors" => 1,
         "read_long_id" => 9,
         _ => 0,
     }
 }
 
-/// The answers that the Rust, or the end of its log or replies, can give to a call of a kind.
+/// Whether the value of a kind is the place that is refused, so that a call which is not done has it too.
+pub fn names_a_place(kind: usize) -> bool {
+    NAMES[kind] == "erase_sectors"
+}
+
+/// The answers that the Rust, the end of its log or replies, or the rules of a list can give to a call of a kind.
 pub fn answers(kind: usize) -> &'static [u32] {
     match NAMES[kind] {
         "calculate" => &[0, 6, 7],
@@ -74,11 +81,12 @@ pub fn answers(kind: usize) -> &'static [u32] {
         "erase_sector" => &[0, 1, 2, 21, 23, 24],
         "program" => &[0, 1, 3, 4, 5, 22, 23, 24],
         "write_pages" => &[0, 1, 4, 5, 22, 23, 24],
+        "erase_sectors" => &[0, 1, 2, 21, 23, 24, 32, 33],
         _ => &[0, 23, 24],
     }
 }
 
 /// Whether a call of a kind polls the flash's status for its end.
 pub fn polls(kind: usize) -> bool {
-    matches!(NAMES[kind], "erase_sector" | "program" | "write_pages")
+    matches!(NAMES[kind], "erase_sector" | "program" | "write_pages" | "erase_sectors")
 }

@@ -6,8 +6,8 @@
 mod answer;
 mod cases;
 mod device;
+mod finished;
 mod kind;
-mod programmed;
 mod record;
 mod rng;
 mod table;

@@ -24,6 +24,8 @@ struct Fields {
     length: usize,
     /// The numbers of a clock call.
     numbers: Vec<u32>,
+    /// The list of a call that has one.
+    list: Vec<u32>,
 }
 
 fn flags(flags: &[bool]) -> u8 {
@@ -69,6 +71,7 @@ fn fields(call: &Call) -> Fields {
             Fields { first: seed, word: *addr, length: data.len(), ..none }
         }
         Call::ReadPageRead { addr, length } => Fields { word: *addr, length: *length, ..none },
+        Call::EraseSectors { list } => Fields { length: list.len(), list: list.clone(), ..none },
         Call::ReadFastRead { addr, dummy_byte, length } => {
             Fields { flags: flags(&[*dummy_byte]), word: *addr, length: *length, ..none }
         }
@@ -105,10 +108,9 @@ pub fn encoded(cases: &[Case]) -> Encoded {
 
 fn record(case: &Case, dictionary: &mut Vec<u32>) -> Vec<u8> {
     let fields = fields(&case.call);
-    let body: Vec<u8> = match &fields.numbers[..] {
-        [] => case.replies.iter().map(|word| place(dictionary, *word)).collect(),
-        numbers => numbers.iter().flat_map(|number| number.to_le_bytes()).collect(),
-    };
+    let words = fields.numbers.iter().chain(&fields.list);
+    let mut body: Vec<u8> = words.flat_map(|number| number.to_le_bytes()).collect();
+    body.extend(case.replies.iter().map(|word| place(dictionary, *word)));
     assert!(case.replies.len() <= MOST_REPLIES && case.room <= LOG_WORDS && fields.length <= BUFFER_BYTES);
     let mut record = vec![kind::number(&case.call) as u8, fields.flags, fields.first, fields.second];
     record.extend(fields.word.to_le_bytes());

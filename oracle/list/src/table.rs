@@ -20,8 +20,9 @@ pub struct Table {
     cases: BTreeMap<(usize, u32), usize>,
     /// By place in [ID_FIELDS]: listed codes, unknown ones.
     codes: [[usize; 2]; ID_FIELDS.len()],
-    /// By answer: `write_pages` that ended so after a finished chunk.
+    /// By answer: `write_pages` that ended so after a finished chunk, and lists after a finished sector.
     after_chunks: BTreeMap<u32, usize>,
+    after_sectors: BTreeMap<u32, usize>,
     turns: [usize; turns::NAMES.len()],
 }
 
@@ -31,6 +32,9 @@ impl Table {
         *self.cases.entry((kind, ended.answer)).or_default() += 1;
         if ended.programmed > 0 {
             *self.after_chunks.entry(ended.answer).or_default() += 1;
+        }
+        if ended.finished > 0 {
+            *self.after_sectors.entry(ended.answer).or_default() += 1;
         }
         for (cases, taken) in self.turns.iter_mut().zip(turns(&answered.log, kind::polls(kind))) {
             *cases += usize::from(taken);
@@ -53,12 +57,22 @@ impl Table {
         for ((name, _, field), [listed, unknown]) in ID_FIELDS.iter().zip(self.codes) {
             writeln!(text, "{name}, {field}: {listed} listed, {unknown} unknown (11)").unwrap();
         }
-        let cells: Vec<String> = self.after_chunks.iter().map(|(answer, cases)| format!("{answer}: {cases}")).collect();
-        writeln!(text, "write_pages after a finished chunk {}", cells.join("  ")).unwrap();
+        for (name, _, after) in self.afters() {
+            let cells: Vec<String> = after.iter().map(|(answer, cases)| format!("{answer}: {cases}")).collect();
+            writeln!(text, "{name} {}", cells.join("  ")).unwrap();
+        }
         for (name, cases) in turns::NAMES.iter().zip(self.turns) {
             writeln!(text, "{name}: {cases}").unwrap();
         }
         text
+    }
+
+    /// Answers after a part of the call is finished: those that there must be, and those that there are.
+    fn afters(&self) -> [(&str, &[u32], &BTreeMap<u32, usize>); 2] {
+        [
+            ("write_pages after a finished chunk", &[0, 4, 5, 22, 23, 24], &self.after_chunks),
+            ("erase_sectors after a finished sector", &[0, 21, 23, 24], &self.after_sectors),
+        ]
     }
 
     /// What should be in the list and is not.
@@ -73,9 +87,10 @@ impl Table {
                 missing.push(format!("{name} has not both kinds of {field}"));
             }
         }
-        let after = [0, 4, 5, 22, 23, 24];
-        let after = after.iter().filter(|answer| !self.after_chunks.contains_key(answer));
-        missing.extend(after.map(|answer| format!("write_pages never answers {answer} after a finished chunk")));
+        for (name, answers, after) in self.afters() {
+            let answers = answers.iter().filter(|answer| !after.contains_key(answer));
+            missing.extend(answers.map(|answer| format!("{name} never has {answer}")));
+        }
         let turns = turns::NAMES.iter().zip(self.turns).filter(|(_, cases)| *cases == 0);
         missing.extend(turns.map(|(name, _)| format!("no case has {name}")));
         missing

@@ -1,6 +1,6 @@
 //! Turns of a run that some case must take, as its log shows them.
 
-use crate::programmed::{Transfer, transfers};
+use crate::finished::{Transfer, transfers};
 
 const ENABLE: u32 = 0x14;
 const INTERRUPT_STATUS: u32 = 0x104;

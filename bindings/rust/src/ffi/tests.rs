@@ -13,6 +13,7 @@ type Fields = &'static [(&'static str, usize)];
 const STRUCTS: &[(&str, usize, Fields)] = &[
     ("qspi_ran", size_of::<qspi_ran>(), qspi_ran::FIELDS),
     ("qspi_pages_ran", size_of::<qspi_pages_ran>(), qspi_pages_ran::FIELDS),
+    ("qspi_sectors_ran", size_of::<qspi_sectors_ran>(), qspi_sectors_ran::FIELDS),
     ("qspi_value_ran", size_of::<qspi_value_ran>(), qspi_value_ran::FIELDS),
     ("qspi_id_ran", size_of::<qspi_id_ran>(), qspi_id_ran::FIELDS),
     ("qspi_long_id_ran", size_of::<qspi_long_id_ran>(), qspi_long_id_ran::FIELDS),
@@ -135,6 +136,6 @@ fn functions_declared() -> Functions {
 #[test]
 fn functions_are_those_of_the_header() {
     let declared = functions_declared();
-    assert_eq!(declared.len(), 23);
+    assert_eq!(declared.len(), 24);
     assert_eq!(declared, functions_of_header());
 }

@@ -8,6 +8,7 @@ use crate::ffi::tests::printed_by_c;
 const AMPLE: usize = 20_000;
 
 const LENGTHS: [usize; 18] = [0, 1, 4, 8, 120, 124, 126, 127, 128, 129, 130, 132, 252, 256, 260, 300, 512, 1024];
+const SECTORS: [usize; 6] = [0, 1, 2, 3, 16, 60];
 const READS: [usize; 19] = [0, 1, 2, 3, 4, 5, 7, 8, 243, 244, 246, 247, 248, 249, 250, 494, 495, 496, 1000];
 
 /// A call of the archive, whatever it gives beside its answer and counts.
@@ -49,7 +50,15 @@ fn a_prompt_device_takes_what_is_said() {
             );
         }
     }
+    for sectors in SECTORS {
+        takes(erase_sectors_accesses(sectors as u64), call!(erase_sectors(&list_of(sectors))));
+    }
     assert_eq!(write_pages_accesses(128), 164);
+}
+
+/// So many sectors, the higher first.
+fn list_of(sectors: usize) -> Vec<u32> {
+    (0..sectors as u32).rev().map(|sector| sector << 16).collect()
 }
 
 #[test]
@@ -71,6 +80,21 @@ fn a_slow_device_takes_no_more() {
             let (answer, used, _) = device.run(AMPLE, call!(write_pages(0x100, &vec![0xA5; length])));
             let shown = u64::from(busy) * (length as u64).div_ceil(CHUNK);
             let words = log_words(write_pages_accesses(length as u64), shown, device.looks);
+            assert_eq!(answer, 0);
+            assert!(used as u64 <= words && words <= used as u64 + 2 * device.looks, "{used} of {words}");
+        }
+    }
+}
+
+#[test]
+fn a_slow_device_takes_no_more_for_a_list() {
+    for (gap, busy) in [(0, 1), (1, 0), (2, 3), (5, 1)] {
+        for (sectors, hides) in [1, 2, 5].into_iter().flat_map(|n| [(n, false), (n, true)]) {
+            let mut device = Device::at_rest(gap, busy);
+            device.hides = hides;
+            let (answer, used, _) = device.run(AMPLE, call!(erase_sectors(&list_of(sectors))));
+            let shown = u64::from(busy) * sectors as u64;
+            let words = log_words(erase_sectors_accesses(sectors as u64), shown, device.looks);
             assert_eq!(answer, 0);
             assert!(used as u64 <= words && words <= used as u64 + 2 * device.looks, "{used} of {words}");
         }
@@ -112,9 +136,11 @@ fn macros_are_these_functions() {
     let mut says = vec![4 * log_words(write_pages_accesses(300), 2, 5)];
     for n in lengths {
         text += &format!("SAY(QSPI_PROGRAM_ACCESSES({n})) SAY(QSPI_WRITE_PAGES_ACCESSES({n}))\n");
+        text += &format!("SAY(QSPI_ERASE_SECTORS_ACCESSES({n}))\n");
         text += &format!("SAY(QSPI_READ_ACCESSES({n}, false)) SAY(QSPI_READ_ACCESSES({n}, true))\n");
         text += &format!("SAY(QSPI_LOG_WORDS({n}, {n}, {n}))\n");
-        says.extend([program_accesses(n), write_pages_accesses(n), read_accesses(n, false), read_accesses(n, true)]);
+        says.extend([program_accesses(n), write_pages_accesses(n), erase_sectors_accesses(n)]);
+        says.extend([read_accesses(n, false), read_accesses(n, true)]);
         says.push(log_words(n, n, n));
     }
     match printed_by_c("room", &(text + "return 0;\n}\n")) {

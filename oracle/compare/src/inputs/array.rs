@@ -10,7 +10,7 @@ use call::Call;
 pub const ARRAY: u32 = 0x0100_0000;
 /// The last sum of address and length that is accepted.
 pub const RANGE_LIMIT: u32 = ARRAY - 1;
-const SECTOR: u32 = 0x1_0000;
+pub const SECTOR: u32 = 0x1_0000;
 
 /// Sizes that the driver knows, and multiples of them.
 const SIZES: [usize; 16] = [124, 128, 132, 236, 240, 241, 244, 247, 248, 249, 256, 495, 496, 497, 512, 744];

@@ -7,8 +7,11 @@
 //! | bytes done of a read, its buffer and its addresses | past 2^24 |
 //! | log words and replies | past 2^25 and 2^23 |
 //! | words drained, looks at the interrupt status, status polls | past 2^16 |
+//! | sectors of a list, and a place in it | to the last there is |
+//! | entries of a list | past 2^24 |
 
 use super::array::{ARRAY, RANGE_LIMIT};
+use super::sectors;
 use super::{Scale, Sweep, Swept};
 use crate::check::{Cuts, On};
 use crate::device::Knobs;
@@ -22,6 +25,8 @@ pub const LONG: usize = 70_000;
 pub const LARGEST_SAVE: usize = 16_777_212;
 /// More than 24 bits can count.
 const LARGEST_READ: usize = (1 << 24) + LONG;
+/// More entries than 24 bits can count, and so few above that a port which counts in them would accept the rest.
+const LARGEST_LIST: usize = (1 << 24) + 3;
 const CHUNK: u32 = 128;
 
 /// The long calls of a kind.
@@ -36,6 +41,7 @@ pub fn long(kind: Kind, sweep: &mut Sweep<'_>) -> Swept {
                 reads(sweep, &|addr, length| Call::ReadFastRead { addr, dummy_byte, length })?;
             }
         }
+        Kind::EraseSectors => lists(sweep)?,
         _ => {}
     }
     waits(kind, sweep)?;
@@ -110,6 +116,23 @@ fn reads(sweep: &mut Sweep<'_>, make: &dyn Fn(u32, usize) -> Call) -> Swept {
     Ok(())
 }
 
+/// All sectors there are, in every order and with each of some places failing; lists that a count of 8 or 16 bits takes for
+/// short ones; and two sectors that are busy for long.
+fn lists(sweep: &mut Sweep<'_>) -> Swept {
+    for list in sectors::orders(&mut sweep.rng) {
+        on_clean(sweep, Call::EraseSectors { list }, Cuts::Late(4))?;
+    }
+    for faulty in [0, 1, 126, 127, 128, 253, 254] {
+        let call = Call::EraseSectors { list: sectors::distinct(&mut sweep.rng, 255) };
+        let knobs = Knobs { faulty: Some(faulty), ..clean(&mut sweep.rng) };
+        sweep.probe(call, On::Device(knobs), Cuts::Late(2))?;
+    }
+    for length in [257, 258, 511, 512, 513, 65_535, 65_536, 65_537, 65_792, LONG, 131_073] {
+        sweep.pure(Call::EraseSectors { list: sectors::cycled(length) })?;
+    }
+    polls(sweep, Call::EraseSectors { list: vec![0x0012_0000, 0x0003_0000] })
+}
+
 /// The largest calls: every chunk that one save can have, and reads of more than the array has, whose addresses go round while
 /// their places in the buffer do not.
 fn largest(kind: Kind, rng: &mut Rng) -> Vec<Call> {
@@ -118,6 +141,7 @@ fn largest(kind: Kind, rng: &mut Rng) -> Vec<Call> {
         Kind::WritePages => vec![Call::WritePages { addr: 0, data: rng.bytes(LARGEST_SAVE) }],
         Kind::ReadPageRead => vec![Call::ReadPageRead { addr, length }],
         Kind::ReadFastRead => [false, true].map(|dummy_byte| Call::ReadFastRead { addr, dummy_byte, length }).to_vec(),
+        Kind::EraseSectors => vec![Call::EraseSectors { list: sectors::cycled(LARGEST_LIST) }],
         _ => Vec::new(),
     }
 }
@@ -151,6 +175,7 @@ fn short(kind: Kind, rng: &mut Rng) -> Call {
         Kind::WritePages => Call::WritePages { addr, data: rng.bytes(8) },
         Kind::ReadPageRead => Call::ReadPageRead { addr, length: 8 },
         Kind::ReadFastRead => Call::ReadFastRead { addr, dummy_byte: rng.flag(), length: 8 },
+        Kind::EraseSectors => Call::EraseSectors { list: sectors::distinct(rng, 2) },
         _ => super::random_call(kind, rng),
     }
 }

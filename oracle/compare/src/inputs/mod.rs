@@ -4,6 +4,7 @@ mod array;
 mod clocks;
 mod long;
 mod registers;
+mod sectors;
 
 use crate::check::{Cuts, Found, On, Probe};
 use crate::device::Knobs;
@@ -95,6 +96,7 @@ fn borders(kind: Kind, sweep: &mut Sweep<'_>) -> Swept {
         Kind::WritePages => array::write_pages(sweep),
         Kind::ReadPageRead => array::read_page_read(sweep),
         Kind::ReadFastRead => array::read_fast_read(sweep),
+        Kind::EraseSectors => sectors::erase_sectors(sweep),
     }
 }
 
@@ -132,6 +134,7 @@ fn random_call(kind: Kind, rng: &mut Rng) -> Call {
             let length = array::random_length(rng, 800);
             Call::ReadFastRead { addr: array::random_address(rng, length), dummy_byte: rng.flag(), length }
         }
+        Kind::EraseSectors => Call::EraseSectors { list: sectors::random(rng) },
         _ => registers::random(kind, rng),
     }
 }

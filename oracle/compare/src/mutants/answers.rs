@@ -1,16 +1,17 @@
 //! Wrong refusals, wrong data, wrong counts and wrong bytes of the calls on the array.
 
 use super::edit::{
-    CONFIG, ENABLE, READ, RX_DATA, TX_DATA_FOUR, answer, change_all, change_last, last_to, refuse, remove,
+    CONFIG, ENABLE, RX_DATA, TX_DATA_FOUR, answer, as_if_closed, change_all, change_last, refuse, remove,
 };
 use super::{Mutant, input, outcome};
 use crate::kind::Kind;
-use crate::observe::observe;
 use crate::sides::{Case, Outcome};
 use call::Call;
 
 const RANGE: &[Kind] = &[Kind::EraseSector, Kind::Program, Kind::WritePages];
+const POLLS: &[Kind] = &[Kind::EraseSector, Kind::Program, Kind::WritePages, Kind::EraseSectors];
 const ERASE: &[Kind] = &[Kind::EraseSector];
+const ERASES: &[Kind] = &[Kind::EraseSector, Kind::EraseSectors];
 const PROGRAM: &[Kind] = &[Kind::Program];
 const WRITES: &[Kind] = &[Kind::Program, Kind::WritePages];
 const PAGES: &[Kind] = &[Kind::WritePages];
@@ -37,17 +38,17 @@ pub const MUTANTS: &[Mutant] = &[
     input("alignment_to_4_is_enough", ERASE, |call| {
         with_addr(call, |addr| if addr % 4 == 0 { addr & !0xFFFF } else { addr })
     }),
-    outcome("erase_address_low_byte_first", ERASE, |_, o| {
+    outcome("erase_address_low_byte_first", ERASES, |_, o| {
         change_all(o, TX_DATA_FOUR, |word| word & 0xFF | word.swap_bytes() << 8 & 0xFFFF_FF00);
     }),
-    outcome("erase_error_answers_programming_error", ERASE, |case, o| answer(case, o, 21, 22, |_| true)),
-    outcome("erase_error_answers_done", ERASE, |case, o| answer(case, o, 21, 0, |_| true)),
-    outcome("error_end_without_write_disable", RANGE, |_, o| {
+    outcome("erase_error_answers_programming_error", ERASES, |case, o| answer(case, o, 21, 22, |_| true)),
+    outcome("erase_error_answers_done", ERASES, |case, o| answer(case, o, 21, 0, |_| true)),
+    outcome("error_end_without_write_disable", POLLS, |_, o| {
         if matches!(o.ended.answer, 21 | 22) {
             remove_last_transfer(o);
         }
     }),
-    outcome("error_answered_before_the_clean_up", RANGE, |_, o| {
+    outcome("error_answered_before_the_clean_up", POLLS, |_, o| {
         if matches!(o.ended.answer, 23 | 24) && clean_up_begun(o) {
             o.ended.answer = 22;
         }
@@ -234,16 +235,7 @@ fn last_reply_of_program(o: &mut Outcome) -> Option<usize> {
 
 /// Counts as if the transfer were closed from its last access to this register on.
 fn count_as_if_closed(o: &mut Outcome, register: u32) {
-    let (used, accesses) = (o.ended.used, o.ended.used / 2);
-    let Some(at) = last_to(o, register) else {
-        return;
-    };
-    let reply = last_to(o, RX_DATA).unwrap_or(0);
-    let raises = register == RX_DATA || o.log()[2 * at + 1] & 1 << 10 != 0 && at > reply;
-    let closes = (at..accesses).all(|at| matches!(o.log()[2 * at], RX_DATA | READ | CONFIG));
-    if raises && closes {
-        let mut closed = o.log()[..used].to_vec();
-        closed.extend([ENABLE, 0]);
-        o.ended.programmed = observe(&closed).finished;
+    if let Some(seen) = as_if_closed(o, register) {
+        o.ended.programmed = seen.programmed;
     }
 }

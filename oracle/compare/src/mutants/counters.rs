@@ -12,7 +12,8 @@ const PAGES: &[Kind] = &[Kind::WritePages];
 const READS: &[Kind] = &[Kind::ReadPageRead, Kind::ReadFastRead];
 const FAST_READ: &[Kind] = &[Kind::ReadFastRead];
 const DATA: &[Kind] = &[Kind::WritePages, Kind::ReadPageRead, Kind::ReadFastRead];
-const POLLS: &[Kind] = &[Kind::EraseSector, Kind::Program, Kind::WritePages];
+const LIST: &[Kind] = &[Kind::EraseSectors];
+const POLLS: &[Kind] = &[Kind::EraseSector, Kind::Program, Kind::WritePages, Kind::EraseSectors];
 
 /// The last chunk of the largest save begins here.
 const LAST_CHUNK: usize = 16_777_088;
@@ -78,6 +79,22 @@ pub const MUTANTS: &[Mutant] = &[
     long_input("length_mod_8388608", DATA, |call| with_length(call, |length| length % 8_388_608)),
     long_input("read_length_mod_16777216", READS, |call| with_length(call, |length| length % 16_777_216)),
     long_input("length_at_most_65535", DATA, |call| with_length(call, |length| length.min(65_535))),
+    long_input("list_length_mod_256", LIST, |call| with_length(call, |length| length % 256)),
+    long_input("list_length_mod_65536", LIST, |call| with_length(call, |length| length % 65_536)),
+    long_input("list_length_mod_16777216", LIST, |call| with_length(call, |length| length % 16_777_216)),
+    long_input("list_length_at_most_255", LIST, |call| with_length(call, |length| length.min(255))),
+    long_outcome("finished_mod_128", LIST, |_, o| o.ended.finished %= 128),
+    long_outcome("finished_mod_255", LIST, |_, o| o.ended.finished %= 255),
+    long_outcome("finished_mod_254_at_21", LIST, |_, o| {
+        if o.ended.answer == 21 {
+            o.ended.finished %= 254;
+        }
+    }),
+    long_outcome("list_used_mod_4096", LIST, |_, o| o.ended.used %= 4_096),
+    long_outcome("list_used_mod_65536", LIST, |_, o| o.ended.used %= 65_536),
+    long_outcome("list_replies_mod_4096", LIST, |_, o| o.ended.replies %= 4_096),
+    long_outcome("list_log_place_mod_65536", LIST, log_place::<65_536>),
+    long_outcome("list_reply_place_mod_4096", LIST, reply_place::<4_096>),
     long_outcome("no_more_than_255_polls", POLLS, |_, o| give_up(o, |seen| seen.busy > 255)),
     long_outcome("no_more_than_65535_polls", POLLS, |_, o| give_up(o, |seen| seen.busy > 65_535)),
     long_outcome("no_more_than_255_looks", TRANSFERS, |_, o| give_up(o, |seen| seen.waits > 255)),
@@ -132,10 +149,11 @@ fn long_enough(case: &Case, modulus: usize) -> bool {
     case.room > modulus && length(&case.call) >= modulus
 }
 
-/// The bytes of a save or a read.
+/// The bytes of a save or a read, and the entries of a list.
 pub fn length(call: &Call) -> usize {
     match call {
         Call::WritePages { data, .. } => data.len(),
+        Call::EraseSectors { list } => list.len(),
         Call::ReadPageRead { length, .. } | Call::ReadFastRead { length, .. } => *length,
         _ => 0,
     }
@@ -262,6 +280,7 @@ fn with_length(call: &Call, change: impl Fn(usize) -> usize) -> Call {
     let mut call = call.clone();
     match &mut call {
         Call::WritePages { data, .. } => data.truncate(change(data.len())),
+        Call::EraseSectors { list } => list.truncate(change(list.len())),
         Call::ReadPageRead { length, .. } | Call::ReadFastRead { length, .. } => *length = change(*length),
         _ => {}
     }

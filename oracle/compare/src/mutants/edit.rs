@@ -1,7 +1,9 @@
 //! Changes to a log that a port has left.
 
 use crate::kind::Kind;
+use crate::observe::{Observed, observe};
 use crate::sides::{Case, Outcome};
+use call::Ended;
 
 pub const READ: u32 = 0x100;
 pub const CONFIG: u32 = 0x00;
@@ -101,10 +103,18 @@ pub fn refuse(outcome: &mut Outcome, answer: u32) {
     for place in 0..outcome.buffer().len() {
         outcome.buffer()[place] = outcome.byte_before(place);
     }
-    let ended = &mut outcome.ended;
-    ended.answer = answer;
-    ended.values.clear();
-    (ended.used, ended.replies, ended.programmed) = (0, 0, 0);
+    outcome.ended = Ended { answer, ..Ended::default() };
+}
+
+/// What the log shows if the transfer counts as closed from its last access to this register on; nothing where it does not end
+/// there.
+pub fn as_if_closed(outcome: &mut Outcome, register: u32) -> Option<Observed> {
+    let (used, accesses) = (outcome.ended.used, accesses(outcome));
+    let at = last_to(outcome, register)?;
+    let reply = last_to(outcome, RX_DATA).unwrap_or(0);
+    let raises = register == RX_DATA || outcome.log()[2 * at + 1] & 1 << 10 != 0 && at > reply;
+    let closes = (at..accesses).all(|at| matches!(outcome.log()[2 * at], RX_DATA | READ | CONFIG));
+    (raises && closes).then(|| observe(&[&outcome.log()[..used], &[ENABLE, 0]].concat()))
 }
 
 /// The answer `from` becomes `to` where `when` says so.

@@ -69,6 +69,11 @@ pub const MUTANTS: &[Mutant] = &[
             o.run(&Call::ReadFastRead { addr, dummy_byte, length: 1 }, case.given(), case.room, case.junk);
         }
     }),
+    outcome("empty_list_read_of_one_entry", &[Kind::EraseSectors], |case, o| {
+        if matches!(&case.call, Call::EraseSectors { list } if list.is_empty()) {
+            o.run(&Call::EraseSectors { list: vec![0] }, case.given(), case.room, case.junk);
+        }
+    }),
     outcome("first_log_word_kept_where_it_was_a_multiple_of_256", LOGGED, |_, o| {
         let before = o.word_before(0);
         if o.ended.used > 0 && before % 256 == 0 {

@@ -7,6 +7,7 @@ mod edit;
 mod junk;
 mod log;
 mod registers;
+mod sectors;
 mod text;
 
 use crate::check::{Checker, Found};
@@ -52,7 +53,7 @@ const fn long_outcome(name: &'static str, kinds: &'static [Kind], changed: fn(&C
 /// All wrong ports.
 fn all() -> impl Iterator<Item = &'static Mutant> {
     let short = log::MUTANTS.iter().chain(registers::MUTANTS).chain(answers::MUTANTS).chain(clocks::MUTANTS);
-    short.chain(junk::MUTANTS).chain(counters::MUTANTS)
+    short.chain(sectors::MUTANTS).chain(junk::MUTANTS).chain(counters::MUTANTS)
 }
 
 /// Tries every wrong port and every wrong driver.
@@ -105,8 +106,9 @@ fn try_port(mutant: &'static Mutant, options: &Options) -> Result<String, Kind> 
 
 fn caught(mutant: &Mutant, checker: &mut Checker, found: Found) -> String {
     let length = counters::length(&found.case.call);
-    let bytes = if mutant.long && length > 0 { format!(" in {length} bytes") } else { String::new() };
-    format!("{bytes}: {}", shrink(checker, found).failure)
+    let unit = if Kind::of(&found.case.call) == Kind::EraseSectors { "entries" } else { "bytes" };
+    let size = if mutant.long && length > 0 { format!(" in {length} {unit}") } else { String::new() };
+    format!("{size}: {}", shrink(checker, found).failure)
 }
 
 fn kinds(mutant: &Mutant) -> String {

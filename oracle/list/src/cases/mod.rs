@@ -3,6 +3,7 @@
 mod array;
 mod clocks;
 mod registers;
+mod sectors;
 
 use crate::answer::{Case, LOG_WORDS};
 use crate::device::{Device, Manner, Noise};
@@ -20,6 +21,7 @@ pub fn all() -> Vec<Case> {
     clocks::add(&mut list);
     registers::add(&mut list);
     array::add(&mut list);
+    sectors::add(&mut list);
     list.cases
 }
 
@@ -34,6 +36,13 @@ struct Live {
 }
 
 impl Live {
+    fn of(log: &[u32]) -> Self {
+        let accesses = log.chunks_exact(2);
+        let reads: Vec<bool> = accesses.clone().map(|access| access[0] >= 0x100).collect();
+        let replies = accesses.zip(&reads).filter(|(_, read)| **read).map(|(access, _)| access[1]).collect();
+        Live { replies, reads }
+    }
+
     fn used(&self) -> usize {
         2 * self.reads.len()
     }
@@ -62,10 +71,13 @@ impl List {
         let mut buffer = [0; crate::answer::BUFFER_BYTES];
         let ran = driver::run(call, source, LOG_WORDS, &mut buffer);
         assert!(ran.ended.answer != 24, "too long: {call:X?}");
-        let accesses = ran.log.chunks_exact(2);
-        let reads: Vec<bool> = accesses.clone().map(|access| access[0] >= 0x100).collect();
-        let replies = accesses.zip(&reads).filter(|(_, read)| **read).map(|(access, _)| access[1]).collect();
-        Live { replies, reads }
+        Live::of(&ran.log)
+    }
+
+    /// The front of a run that is longer than the log there is.
+    fn front(&self, call: &Call, manner: &Manner) -> Live {
+        let source = Device::new(manner.clone(), self.rng());
+        Live::of(&driver::run(call, Box::new(source), LOG_WORDS, &mut []).log)
     }
 
     fn on_device(&self, call: &Call, manner: &Manner) -> Live {
