@@ -18,3 +18,9 @@ pub mod Examples
 pub mod WrongDrivers
 pub mod Promised
 pub mod Stepped
+pub mod SectorDriver
+pub mod SectorWatch
+pub mod SectorTheorem
+pub mod SectorPromised
+pub mod SectorLaws
+pub mod SectorExamples

@@ -1,7 +1,9 @@
 pub mod Flash
 pub mod Controller
 pub mod Observer
+pub mod SectorObserver
 pub mod Statement
 pub mod Promise
+pub mod SectorPromise
 pub mod Saving
 pub mod Witness

@@ -44,7 +44,7 @@ pub data OnRegisters : Script → Type 0 where
   on-repeat : {a : Action} {l : List Action} {still : List ℕ → Bool} {k : List ℕ → Script} → ToRegister a → ToRegisters l → ((rs : List ℕ) → OnRegisters (k rs)) → OnRegisters (repeats a l still k)
   on-count : {j : ℕ} {s : Script} → OnRegisters s → OnRegisters (counts j s)
 
-either : {s t : Script} (b : Bool) → OnRegisters s → OnRegisters t → OnRegisters (onward b s t)
+pub either : {s t : Script} (b : Bool) → OnRegisters s → OnRegisters t → OnRegisters (onward b s t)
 either true p q = p
 either false p q = q
 
@@ -162,7 +162,7 @@ new-latency : (l : Latency) (quad clear : Bool) → OnRegisters (call.newLatency
 new-latency AsRead quad clear = new-with quad false 0 clear
 new-latency (Code c) quad clear = new-with quad true c clear
 
-works : (bit : ℕ) (failure : Status) (x : Transfer) → x .port ≡ offsetOf register.TxData00 → {then : Script} → OnRegisters then → OnRegisters (call.working bit failure x then)
+pub works : (bit : ℕ) (failure : Status) (x : Transfer) → x .port ≡ offsetOf register.TxData00 → {then : Script} → OnRegisters then → OnRegisters (call.working bit failure x then)
 works bit failure x e h =
     exchanges register.TxData01 call.enabling refl
     (λ rs. exchanges register.TxData00 x e
