@@ -27,11 +27,13 @@ use Rattle.qspi_calls.specs.Begins.{BeginsList}
 use Rattle.qspi_calls.specs.Calls as call
 use Rattle.qspi_calls.specs.Calls.{refused, refusedAt, sectors, eraseSectors}
 use Rattle.qspi_calls.specs.Sectors.{sectorStatus, firstRefused, firstRepeat, numbers, numbersIn}
+use Rattle.qspi_calls.specs.OneByOne.{Accepted, SingleErases}
 use Rattle.qspi_calls.specs.declared.run.Ran.{Ran}
 use Rattle.qspi_calls.specs.Promise.{loggedOf, handed, oneOf}
 use Rattle.qspi_calls.proofs.ListLoops.{length-in}
 use Rattle.qspi_calls.proofs.ListOfSectors.{all-good}
 use Rattle.qspi_calls.proofs.Registers.{OnRegisters, on-end, on-count, either, works, runs-on-registers}
+use Rattle.qspi_calls.proofs.OneByOne.{single-erases}
 use Rattle.qspi_calls.proofs.Promised.{whole-call}
 use Rattle.power_cut.specs.SectorObserver.{seen}
 use Rattle.power_cut.specs.SectorPromise.{Cleared, placed, sectorsAnswer}
@@ -190,3 +192,7 @@ module _ (l rs log : List ℕ) where
         to-registers = runs-on-registers (erase-sectors-on l) (length log / 2) rs;
         claim = rw n (shows-sectors l (length log / 2) rs);
       }
+
+  -- and of a list that is not refused it is that of the single erases
+  pub single : {r : SectorsRan} {log₁ : List ℕ} → Promised r log₁ → Accepted l → SingleErases l (length log / 2) rs log (r .ran .answer) (r .finished) log₁
+  single {r} p = single-erases l (length log / 2) rs log (said-fixes _ _ _ _ (ap (λ (z : Answered). z .says) (p .answer))) (ap (λ (z : Answered). z .counted) (p .answer)) (p .logged)

@@ -9,6 +9,7 @@ ghost use Rattle.qspi_script.specs.Answer.{valuesIn};
 ghost use Rattle.qspi_operation.specs.Machine.{called};
 ghost use Rattle.qspi_operation.specs.Points.{answeredOf};
 ghost use Rattle.qspi_calls.specs.Calls as call;
+ghost use Rattle.qspi_calls.specs.OneByOne.{Accepted, SingleErases};
 ghost use Rattle.qspi_calls.specs.Promise.{loggedOf, oneOf};
 ghost use Rattle.power_cut.specs.Promise.{Saved, answerOf};
 ghost use Rattle.power_cut.specs.SectorPromise.{Cleared, sectorsAnswer};
@@ -61,6 +62,7 @@ pub fn erase_sectors(list: &[u32], replies: &[u32], log: &mut [u32]) -> SectorsR
     ensures answer { λ r. ⌜ sectorsAnswer r ≡ answeredOf (called (call.eraseSectors (now (list .entry))) (length (now (log .entry)) / 2) (now (replies .entry))) ⌝ }
     ensures place { λ r. ⌜ r .place ≡ oneOf (valuesIn (answeredOf (called (call.eraseSectors (now (list .entry))) (length (now (log .entry)) / 2) (now (replies .entry))) .says)) ⌝ }
     ensures logged { λ r. ⌜ now (log .exit) ≡ loggedOf (called (call.eraseSectors (now (list .entry))) (length (now (log .entry)) / 2) (now (replies .entry))) (now (log .entry)) ⌝ }
+    ensures singles { λ r. ⌜ (Accepted (now (list .entry)) → SingleErases (now (list .entry)) (length (now (log .entry)) / 2) (now (replies .entry)) (now (log .entry)) (r .ran .answer) (r .finished) (now (log .exit))) ⌝ }
     ensures shown { λ r. ⌜ Cleared (now (list .entry)) r (now (log .exit)) ⌝ }
 {
     let op = start::erase_sectors(list, log.len());

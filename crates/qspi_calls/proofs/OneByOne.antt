@@ -4,11 +4,12 @@ use mathlib.Core.Path.{_≡_, refl, ap, subst, _∙_, sym}
 use mathlib.Core.Bool.{Bool, true, false}
 use mathlib.Core.List.{List, [], _∷_, _++_, reverse}
 use mathlib.Core.Logic.{_↔_, _⊎_, inl, inr}
-use Prim.Native.Nat.{ℕ, zero, suc, _+_, _%_, _≤_, _<_}
+use Prim.Native.Nat.{ℕ, zero, suc, _+_, _*_, _%_, _≤_, _<_}
 use native.Mathlib.Omega.{arith}
-use lib.ListN.{length, getD}
+use lib.ListN.{length, getD, drop}
 use borrow.Author.Tests.{le-ltb, eq-eqb}
 use Rattle.zynq7000.specs.Bits.{isSet}
+use Rattle.zynq7000.specs.Access.{encode}
 use Rattle.zynq7000.specs.declared.qspi.Access.{Access}
 use Rattle.zynq7000.specs.declared.qspi.Access.the-variants as access
 use Rattle.qspi_script.specs.declared.Status.{Status}
@@ -19,7 +20,8 @@ use Rattle.qspi_operation.proofs.Verdicts.{no}
 use Rattle.qspi_operation.proofs.Stops.{some-due}
 use Rattle.qspi_calls.specs.Calls.{erasing, top, working, eraseSector, sectors, eraseSectors}
 use Rattle.qspi_calls.specs.Settled.{Settles, Fails}
-use Rattle.qspi_calls.specs.OneByOne.{Erases, isDone, afterOne, oneByOne, Singles, Accepted}
+use Rattle.qspi_calls.specs.Promise.{loggedOf}
+use Rattle.qspi_calls.specs.OneByOne.{Erases, isDone, afterOne, oneByOne, Singles, SingleErases, Accepted}
 use Rattle.qspi_calls.proofs.Precisely.{at-once}
 use Rattle.qspi_calls.proofs.Failures.{erase-done, erase-twenty-one}
 use Rattle.qspi_calls.proofs.ListOfSectors as list
@@ -346,3 +348,10 @@ refused-list l h n rs = go (outcome l)
 -- THEOREM. The empty list is done at once, with no access and nothing finished.
 pub empty-list : (n : ℕ) (rs : List ℕ) → called (eraseSectors []) n rs ≡ halt Done (ended Done [] [] 0) n rs
 empty-list n rs = at-once n rs Done []
+
+-- what a run hands back is that of the single erases
+pub single-erases : (l : List ℕ) (n : ℕ) (rs log : List ℕ) {a : Status} {m : ℕ} {log₁ : List ℕ} → a ≡ called (eraseSectors l) n rs .answer → m ≡ countIn (called (eraseSectors l) n rs .state) → log₁ ≡ loggedOf (called (eraseSectors l) n rs) log
+    → Accepted l → SingleErases l n rs log a m log₁
+single-erases l n rs log e f g h =
+    let s = singles l h n rs in
+    record { ends = e ∙ s .answer; counts = f ∙ s .finished; logged = g ∙ ap (λ (z : List Access). encode z ++ drop (2 * length z) log) (s .log) }

@@ -1,11 +1,12 @@
 -- What `erase_sectors` does, over the single erases: document 02, U1. "the log is that of the single erases in list order, each on the replies and driver state that the one before left, up to
 -- where it is stopped. The answer counts sectors finished".
-use Prim.Native.Nat.{ℕ, suc, _+_, _%_, _≤_, _<_}
+use Prim.Native.Nat.{ℕ, suc, _+_, _*_, _%_, _≤_, _<_}
 use mathlib.Core.Path.{_≡_}
 use mathlib.Core.Bool.{Bool, true, false}
 use mathlib.Core.List.{List, [], _∷_, _++_}
 use lib.Dec.{eqb}
-use lib.ListN.{length, getD}
+use lib.ListN.{length, getD, drop}
+use Rattle.zynq7000.specs.Access.{encode}
 use Rattle.zynq7000.specs.declared.qspi.Access.{Access}
 use Rattle.zedboard_bsp.specs.Limits.{lastEnd, sectorSize, longestList}
 use Rattle.qspi_script.specs.Answer.{numberOf}
@@ -44,6 +45,12 @@ pub record Singles (l : List ℕ) (n : ℕ) (rs : List ℕ) (r : Result) : Type 
   pub finished : countIn (r .state) ≡ oneByOne l n rs .finished
   pub room : r .room ≡ oneByOne l n rs .room
   pub unread : r .unread ≡ oneByOne l n rs .unread
+
+-- the same of what is handed back: how it ended, the count, and the log, in which the accesses stand before the words that were there
+pub record SingleErases (l : List ℕ) (n : ℕ) (rs log : List ℕ) (answer : Status) (finished : ℕ) (log₁ : List ℕ) : Type 0 where
+  pub ends : answer ≡ oneByOne l n rs .answer
+  pub counts : finished ≡ oneByOne l n rs .finished
+  pub logged : log₁ ≡ encode (oneByOne l n rs .log) ++ drop (2 * length (oneByOne l n rs .log)) log
 
 -- ---- the lists that are erased
 

@@ -68,7 +68,7 @@ returns c =
     let p =
     promise.promised l rs log (c .before .before .before .before .before .before .before .before .before .before .before .before .before .erase-sectors .ensures .1) (c .before .before .before .before .before .before .before .before .before .before .before .before .numbered .ensures) (c .before .before .before .before .before .before .before .before .before .before .lent .ensures) (c .before .before .before .before .before .before .run .ensures .1)
     (c .before .before .counted .ensures) (c .before .value .ensures) (c .finish .ensures) in
-    (p .answer, (p .place, (p .logged, promise.cleared l rs log p)))
+    (p .answer, (p .place, (p .logged, (promise.single l rs log p, promise.cleared l rs log p))))
 
 pub erase-sectors-spec : {M : Type 1} → statement M
 erase-sectors-spec =
