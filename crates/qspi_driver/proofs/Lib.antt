@@ -10,3 +10,4 @@ pub mod Driving
 pub mod FinishWalk
 pub mod Saving
 pub mod DriverLaws
+pub mod Clearing

@@ -75,6 +75,9 @@ job-kept Full o = refl
 job-kept Dry o = refl
 job-kept (Made first v read) o = job-by (wireNext (o .wire) (frameOf (o .job) (o .place)) v) o (o .used + 2) (counted read (o .replies))
 
+pub step-job : (o : Op) (bytes : List ℕ) (buffer room : ℕ) (r : Reply) → stepOf o bytes buffer room r .op .job ≡ o .job
+step-job o bytes buffer room r = job-kept (verdictOf o bytes buffer room r) o
+
 pub lent-kept : (o : Op) (bytes : List ℕ) (buffer room : ℕ) (r : Reply) (list data₁ : List ℕ) → lentTo (stepOf o bytes buffer room r .op) list data₁ ≡ lentTo o list data₁
 lent-kept o bytes buffer room r list data₁ = ap (λ (j : Job). lentIf (listJob j) (j .lent .«data») list data₁) (job-kept (verdictOf o bytes buffer room r) o)
 

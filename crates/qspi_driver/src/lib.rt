@@ -9,6 +9,7 @@ ghost use Rattle.qspi_driver.specs.State.{begunOf, begunListOf, lentTo, 
 ghost use Rattle.qspi_driver.specs.Promise.{Started, Steps, AnswerFollows, Drives};
 ghost use Rattle.qspi_driver.specs.Driver.{idle, driverOf, finishedOf, drivenOf, listDrivenOf};
 ghost use Rattle.qspi_driver.specs.Saved.{Saves, Untouched};
+ghost use Rattle.qspi_driver.specs.Cleared.{ListStarted, Clears};
 use crate::state::Answer;
 use crate::state::Progress;
 use crate::state::SectorList;
@@ -56,6 +57,7 @@ impl QspiSpansionS25Fl256SIoMode {
     pub fn erase_sectors(&mut self, list: &[u32], log: usize) -> Answer
         ensures state { λ _. ⌜ now (self .exit) ≡ driverOf (begunListOf (now (self .entry) .state) (now (self .entry) .list) (now (list .entry)) log .state) (begunListOf (now (self .entry) .state) (now (self .entry) .list) (now (list .entry)) log .list) ⌝ }
         ensures answer { λ r. ⌜ r ≡ begunListOf (now (self .entry) .state) (now (self .entry) .list) (now (list .entry)) log .answer ⌝ }
+        ensures begins { λ r. ⌜ ListStarted (now (self .entry) .state) (now (list .entry)) log r (now (self .exit) .state) (now (self .exit) .list) ⌝ }
     {
         let state = self.state;
         let kept = self.list;
@@ -174,7 +176,8 @@ pub fn write_pages(
     drive(driver, op, data, &mut buffer, log, replies)
 }
 
-// A list of sectors, erased from the first to the last through the lent driver. The driver keeps the list.
+// A list of sectors, erased from the first to the last through the lent driver, which keeps the list. Its
+// contract states that it is the single erases one by one, and which sectors its log shows finished.
 pub fn erase_sectors(
     driver: QspiSpansionS25Fl256SIoMode,
     list: &[u32],
@@ -184,6 +187,8 @@ pub fn erase_sectors(
     ensures driver { λ r. ⌜ r .driver ≡ listDrivenOf driver (now (list .entry)) (now (replies .entry)) (now (log .entry)) .driver ⌝ }
     ensures answer { λ r. ⌜ r .answer ≡ listDrivenOf driver (now (list .entry)) (now (replies .entry)) (now (log .entry)) .answer ⌝ }
     ensures logged { λ _. ⌜ now (log .exit) ≡ listDrivenOf driver (now (list .entry)) (now (replies .entry)) (now (log .entry)) .log ⌝ }
+    ensures clears { λ r. ⌜ (isGoing (driver .state .op .status) ≡ false → Clears (now (list .entry)) (now (replies .entry)) (now (log .entry)) r (now (log .exit))) ⌝ }
+    ensures busy { λ r. ⌜ (isGoing (driver .state .op .status) ≡ true → Untouched driver (now (log .entry)) r (now (log .exit))) ⌝ }
 {
     let state = driver.state;
     let kept = driver.list;

@@ -11,6 +11,7 @@ ghost use Rattle.qspi_operation.specs.Step.{dueOf, logOf, bufferOf, replyOf};
 ghost use Rattle.qspi_operation.specs.Follows.{DueFollows};
 ghost use Rattle.qspi_driver.specs.State.{numberIn, begunOf, begunListOf, lentTo, actedBy, steppedOf, progressOf, valuesGiven, placeGiven, isUnderWay};
 ghost use Rattle.qspi_driver.specs.Promise.{Started, Steps, AnswerFollows};
+ghost use Rattle.qspi_driver.specs.Cleared.{ListStarted};
 use qspi_calls::run;
 use qspi_calls::sectors;
 use qspi_calls::start;
@@ -164,7 +165,7 @@ pub fn begin(state: State, op: Op) -> Acted
 
 // Begins a list of sectors, unless a call is under way: its numbers are kept beside the operation.
 pub fn begin_list(state: State, kept: SectorList, list: &[u32], log: usize) -> ListActed
-    ensures acted { λ r. ⌜ r ≡ begunListOf state kept (now (list .entry)) log ⌝ }
+    ensures acted { λ r. ⌜ (r ≡ begunListOf state kept (now (list .entry)) log) × ListStarted state (now (list .entry)) log (r .answer) (r .state) (r .list) ⌝ }
 {
     let at_hand = state.op;
     let status = at_hand.status;

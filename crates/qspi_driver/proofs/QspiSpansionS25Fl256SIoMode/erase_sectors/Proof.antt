@@ -35,13 +35,14 @@ use denote.Exit.{yes}
 use denote.Signature.{plain, shrSliceOf}
 use Rattle.qspi_driver.specs.State.{begunListOf}
 use Rattle.qspi_driver.specs.Driver.{driverOf}
+use Rattle.qspi_driver.specs.Cleared.{ListStarted}
 use Rattle.qspi_driver.specs.declared.QspiSpansionS25Fl256SIoMode.{QspiSpansionS25Fl256SIoMode}
 use Rattle.qspi_driver.specs.declared.state.ListActed.{ListActed}
 use Rattle.qspi_driver.proofs.QspiSpansionS25Fl256SIoMode as Driverᵀ
 use Rattle.qspi_driver.proofs.state.Answer as Answerᵀ
 use Rattle.hand_walks.proofs.Known.{slice}
 use Rattle.qspi_driver.proofs.Types as Types
-use Rattle.hand_walks.proofs.Clauses.{each-of-two}
+use Rattle.hand_walks.proofs.Clauses.{each-of-three}
 use Rattle.qspi_driver.proofs.ThinErase as thin
 use Rattle.qspi_driver.proofs.state.begin_list as callee
 use Rattle.qspi_driver.proofs.state.begin_list.Symbol as callee-def
@@ -84,7 +85,7 @@ module _ {M : Type 1} (𝓤 : URA M) (H : Heap 𝓤) (A : Atoms 𝓤) (W : Given
 
   -- what the callee ensures
   abbrev Said : ListActed → Type 0
-  Said r = r ≡ begunListOf (h .state) (h .list) (list .now) log
+  Said r = (r ≡ begunListOf (h .state) (h .list) (list .now) log) × ListStarted (h .state) (list .now) log (r .answer) (r .state) (r .list)
 
   abbrev Ens : ListActed → SProp 𝓤
   Ens r = ensured 𝓤 H A callee.ended (callee.clauses 𝓤 H A at-mem run) (κ₁, tt) (h .state, (h .list, (list, (log, tt)))) tt r
@@ -96,9 +97,9 @@ module _ {M : Type 1} (𝓤 : URA M) (H : Heap 𝓤) (A : Atoms 𝓤) (W : Given
   exits r is e =
       qed W (‵ (fobs γ (Driverᵀ.the-row .coded .code (record { state = r .state; list = r .list }))) ∷ ‵ (fbor κ₀ (Body (mem Driverᵀ.the-row) b o γ)) ∷ ‵ (flft κ₀ q₀) ∷ (‵ (flft κ₁ q₁) ⊛ ‵ ftrue) ∷ []) ∵
       suffices ! _
-      (via 𝓤 _ (monoR 𝓤 (onExit 𝓤 H A this.ended stayed (κ₀, (κ₁, tt)) (q₀, (q₁, tt)) vals (Types.answer 𝓤 H A W .val (r .answer)) (r .answer) a (record { state = r .state; list = r .list }, (tt, (tt, tt)))) (each-of-two 𝓤 _ _))
+      (via 𝓤 _ (monoR 𝓤 (onExit 𝓤 H A this.ended stayed (κ₀, (κ₁, tt)) (q₀, (q₁, tt)) vals (Types.answer 𝓤 H A W .val (r .answer)) (r .answer) a (record { state = r .state; list = r .list }, (tt, (tt, tt)))) (each-of-three 𝓤 _ _ _))
       (ends-at 𝓤 H A this.ended stayed (this.clauses 𝓤 H A at-mem run) W (((κ₀, (κ₁, tt)), (q₀, (q₁, tt)), tt, a, vals), tt) (Types.answer 𝓤 H A W .val (r .answer)) (r .answer) (record { state = r .state; list = r .list }, (tt, (tt, tt))) (tt, (tt, (tt, tt))))) $
-      says ! (ap (λ (y : ListActed). driverOf (y .state) (y .list)) e, ap (λ (y : ListActed). y .answer) e) $
+      says ! (ap (λ (y : ListActed). driverOf (y .state) (y .list)) (e .0), (ap (λ (y : ListActed). y .answer) (e .0), e .1)) $
       move ! (2 ∷ 3 ∷ []) $ join ! $ frame ! $ feqI ! (List Val) (vptr b o ∷ []) (vptr b o ∷ []) refl $ fjoin3 ! $ nothing ! $ nothing ! $ fjoin ! $ nothing ! $ fjoin ! $ move ! (1 ∷ 0 ∷ []) $
       fjoin ! $ frame ! $ owned ! Answerᵀ.the-row (Is Answerᵀ.the-row) (Types.answer 𝓤 H A W .makes) (r .answer) _ is $ done !
 
