@@ -38,16 +38,19 @@ use Rattle.qspi_operation.specs.Follows.{givenBy, answerBy, RunFollows}
 use Rattle.qspi_calls.specs.Begins.{Begins, BeginsWith}
 use Rattle.qspi_calls.specs.Calls as call
 use Rattle.qspi_calls.specs.declared.start.Latency.{Latency}
-use Rattle.qspi_calls.specs.Promise.{keptOf, loggedOf, Called}
+use Rattle.qspi_calls.specs.Promise.{keptOf, loggedOf, oneOf, Called}
 use Rattle.qspi_calls.proofs.Promised.{whole-call}
-use Rattle.qspi_calls.proofs.ValueLaws.{by-done}
+use Rattle.qspi_calls.proofs.ValueLaws.{by-values}
 use Rattle.power_cut.specs.Promise.{answerOf as pagesAnswer}
+use Rattle.power_cut.specs.SectorPromise.{placed, sectorsAnswer}
 use Rattle.power_cut.specs.declared.PagesRan.{PagesRan}
+use Rattle.power_cut.specs.declared.SectorsRan.{SectorsRan}
 use Rattle.qspi_abi.specs.Codes as codes
-use Rattle.qspi_abi.specs.Numbers.{goingOn, answerNumber, ran, valued, pages, withId, identified, withLongId, identifiedAtLength, clockConfig, Commands, Reads}
+use Rattle.qspi_abi.specs.Numbers.{goingOn, answerNumber, ran, valued, pages, withPlace, sectors, withId, identified, withLongId, identifiedAtLength, clockConfig, Commands, Reads}
 use Rattle.qspi_abi.specs.Numbers as numbers
 use Rattle.qspi_abi.specs.declared.QspiRan.{QspiRan}
 use Rattle.qspi_abi.specs.declared.QspiPagesRan.{QspiPagesRan}
+use Rattle.qspi_abi.specs.declared.QspiSectorsRan.{QspiSectorsRan}
 use Rattle.qspi_abi.specs.declared.QspiValueRan.{QspiValueRan}
 use Rattle.qspi_abi.specs.declared.QspiIdRan.{QspiIdRan}
 use Rattle.qspi_abi.specs.declared.QspiLongIdRan.{QspiLongIdRan}
@@ -63,6 +66,19 @@ number-is a e f vs = f ∙ ap (λ (z : Number). orElse z goingOn) (e ∙ number-
 -- 0 is the number of a save that is done
 pub zero-done : (p : PagesRan) {q : QspiPagesRan} {n : ℕ} → q ≡ pages (pagesAnswer p) → (p .ran .answer ≡ Done → p .programmed ≡ n) → q .answer ≡ 0 → q .programmed ≡ n
 zero-done p e f z = ap (λ (x : QspiPagesRan). x .programmed) e ∙ f (zero-is-done (p .ran .answer) [] goingOn refl (sym (ap (λ (x : QspiPagesRan). x .answer) e) ∙ z))
+
+-- ---- a list of sectors
+
+pub sectors-of : (p : SectorsRan) {q : QspiSectorsRan} {a : Answered} → q ≡ withPlace (sectorsAnswer p) (p .place) → sectorsAnswer p ≡ a → p .place ≡ oneOf (valuesIn (a .says)) → q ≡ sectors a
+sectors-of p {q} {a} e f g = e ∙ ap (λ (x : Answered). withPlace x (p .place)) f ∙ ap (withPlace a) g
+
+-- the number does not depend on the place
+pub number-of-ends : (p : SectorsRan) {q : QspiSectorsRan} {a : Status} → q ≡ withPlace (sectorsAnswer p) (p .place) → p .ran .answer ≡ a → q .answer ≡ answerNumber (saidBy a [])
+number-of-ends p {q} {a} e f =
+    ap (λ (x : QspiSectorsRan). x .answer) e ∙ ap (λ (z : Number). orElse z goingOn) (number-alone (p .ran .answer) (placed (p .ran .answer) (p .place)) []) ∙ ap (λ (z : Status). answerNumber (saidBy z [])) f
+
+pub finished-of : (p : SectorsRan) {q : QspiSectorsRan} → q ≡ withPlace (sectorsAnswer p) (p .place) → q .finished ≡ p .finished
+finished-of p e = ap (λ (x : QspiSectorsRan). x .finished) e
 
 -- ---- runs
 
@@ -141,10 +157,10 @@ long-id p i {j = j} e₁ e₂ e₃ e₄ e₅ e₆ e₇ e₈ e₉ e₁₀ e₁₁
 
 -- an id that is not given yet is zeros, as its numbers are
 id-zeros : (a : Status) (x : ℕ) (w : Answered) → withId w (replyBytes (keptOf a x)) ≡ withId w (valuesIn (saidBy a (replyBytes x)))
-id-zeros a x w = by-done a (λ (b : Bool) (f : List ℕ → List ℕ). withId w (replyBytes (cond b x 0)) ≡ withId w (f (replyBytes x))) refl refl
+id-zeros a x w = by-values a (λ (b : Bool) (f : List ℕ → List ℕ). withId w (replyBytes (cond b x 0)) ≡ withId w (f (replyBytes x))) refl refl
 
 long-id-zeros : (a : Status) (x y z : ℕ) (w : Answered) → withLongId w (longReplyBytes (keptOf a x) (keptOf a y) (keptOf a z)) ≡ withLongId w (valuesIn (saidBy a (longReplyBytes x y z)))
-long-id-zeros a x y z w = by-done a (λ (b : Bool) (f : List ℕ → List ℕ). withLongId w (longReplyBytes (cond b x 0) (cond b y 0) (cond b z 0)) ≡ withLongId w (f (longReplyBytes x y z))) refl refl
+long-id-zeros a x y z w = by-values a (λ (b : Bool) (f : List ℕ → List ℕ). withLongId w (longReplyBytes (cond b x 0) (cond b y 0) (cond b z 0)) ≡ withLongId w (f (longReplyBytes x y z))) refl refl
 
 -- the operation at the end of a run still gives what its call gives
 gives-still : {g : Gives} (o : Op) (s : Stepped) → o .job .script .gives ≡ g → s .op .job ≡ o .job → s .op .job .script .gives ≡ g

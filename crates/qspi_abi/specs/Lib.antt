@@ -1,3 +1,4 @@
 pub mod Codes
 pub mod Numbers
 pub mod Saved
+pub mod Cleared

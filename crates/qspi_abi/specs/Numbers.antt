@@ -13,6 +13,7 @@ use Rattle.qspi_calls.specs.Begins.{Begins, BeginsInto}
 use Rattle.qspi_calls.specs.Promise.{oneOf, loggedOf, bufferedOf}
 use Rattle.qspi_abi.specs.declared.QspiRan.{QspiRan}
 use Rattle.qspi_abi.specs.declared.QspiPagesRan.{QspiPagesRan}
+use Rattle.qspi_abi.specs.declared.QspiSectorsRan.{QspiSectorsRan}
 use Rattle.qspi_abi.specs.declared.QspiValueRan.{QspiValueRan}
 use Rattle.qspi_abi.specs.declared.QspiIdRan.{QspiIdRan}
 use Rattle.qspi_abi.specs.declared.QspiLongIdRan.{QspiLongIdRan}
@@ -37,7 +38,14 @@ abbrev pub valued : Answered → QspiValueRan
 valued a = withValue a (oneOf (valuesIn (a .says)))
 
 abbrev pub pages : Answered → QspiPagesRan
-pages a = record { answer = answerNumber (a .says); programmed = a .programmed; used = a .used; replies = a .replies }
+pages a = record { answer = answerNumber (a .says); programmed = a .counted; used = a .used; replies = a .replies }
+
+-- with a place: that of the entry that a list was refused for, 0 where there is none
+abbrev pub withPlace : Answered → ℕ → QspiSectorsRan
+withPlace a v = record { answer = answerNumber (a .says); place = v; finished = a .counted; used = a .used; replies = a .replies }
+
+abbrev pub sectors : Answered → QspiSectorsRan
+sectors a = withPlace a (oneOf (valuesIn (a .says)))
 
 -- the byte at a place of an id
 abbrev pub byteAt : List ℕ → ℕ → ℕ

@@ -20,8 +20,12 @@ ghost use Rattle.qspi_calls.specs.Promise.{keptOf, loggedOf, bufferedOf};
 ghost use Rattle.power_cut.specs.Promise.{answerOf as pagesAnswer};
 ghost use Rattle.qspi_abi.specs.Codes as codes;
 ghost use Rattle.qspi_abi.specs.Numbers as numbers;
+ghost use Rattle.qspi_calls.specs.OneByOne.{Accepted};
+ghost use Rattle.power_cut.specs.SectorPromise.{sectorsAnswer};
 ghost use Rattle.qspi_abi.specs.Saved.{SavedNumbers};
+ghost use Rattle.qspi_abi.specs.Cleared.{SingleNumbers, ClearedNumbers};
 use power_cut::PagesRan;
+use power_cut::SectorsRan;
 use qspi_calls::run;
 use qspi_calls::start;
 use qspi_calls::start::Config;
@@ -50,6 +54,15 @@ pub struct QspiRan {
 pub struct QspiPagesRan {
     pub answer: u32,
     pub programmed: usize,
+    pub used: usize,
+    pub replies: usize,
+}
+
+#[repr(C)]
+pub struct QspiSectorsRan {
+    pub answer: u32,
+    pub place: u32,
+    pub finished: usize,
     pub used: usize,
     pub replies: usize,
 }
@@ -148,6 +161,20 @@ fn pages_out(pages: PagesRan) -> QspiPagesRan
     QspiPagesRan {
         answer: number_of(answer),
         programmed: pages.programmed,
+        used: ran.used,
+        replies: ran.replies,
+    }
+}
+
+fn sectors_out(sectors: SectorsRan) -> QspiSectorsRan
+    ensures numbers { λ r. ⌜ r ≡ numbers.withPlace (sectorsAnswer sectors) (sectors .place) ⌝ }
+{
+    let ran = sectors.ran;
+    let answer = ran.answer;
+    QspiSectorsRan {
+        answer: number_of(answer),
+        place: sectors.place,
+        finished: sectors.finished,
         used: ran.used,
         replies: ran.replies,
     }
@@ -530,6 +557,20 @@ pub extern "C" fn qspi_erase_sector(addr: u32, replies: &[u32], log: &mut [u32])
 {
     let op = start::erase_sector(addr, log.len());
     command(op, replies, log)
+}
+
+#[no_mangle]
+pub extern "C" fn qspi_erase_sectors(
+    list: &[u32],
+    replies: &[u32],
+    log: &mut [u32],
+) -> QspiSectorsRan
+    ensures ran { λ r. ⌜ r ≡ numbers.sectors (answeredOf (called (call.eraseSectors (now (list .entry))) (length (now (log .entry)) / 2) (now (replies .entry)))) ⌝ }
+    ensures logged { λ r. ⌜ now (log .exit) ≡ loggedOf (called (call.eraseSectors (now (list .entry))) (length (now (log .entry)) / 2) (now (replies .entry))) (now (log .entry)) ⌝ }
+    ensures singles { λ r. ⌜ (Accepted (now (list .entry)) → SingleNumbers (now (list .entry)) (length (now (log .entry)) / 2) (now (replies .entry)) (now (log .entry)) r (now (log .exit))) ⌝ }
+    ensures shown { λ r. ⌜ ClearedNumbers (now (list .entry)) r (now (log .exit)) ⌝ }
+{
+    sectors_out(power_cut::erase_sectors(list, replies, log))
 }
 
 #[no_mangle]

@@ -1,6 +1,6 @@
 -- A save through the driver is the run of `write_pages`, so it promises what that run promises. Assumes nothing.
 use Prim.Native.Nat.{ℕ, _<_}
-use mathlib.Core.Path.{_≡_, refl, ap, _∙_}
+use mathlib.Core.Path.{_≡_, refl, ap, subst, _∙_}
 use mathlib.Core.Bool.{Bool, true, false}
 use mathlib.Core.List.{List, []}
 use lib.ListN.{length, getD}
@@ -15,7 +15,12 @@ use Rattle.qspi_calls.specs.Calls.{writePages}
 use Rattle.qspi_calls.specs.Starts.{writePagesOf}
 use Rattle.power_cut.proofs.Promised.{promised, saved}
 use Rattle.qspi_operation.specs.Step.{erasesList}
-use Rattle.qspi_driver.proofs.SectorLists.{save-erases-none}
+use Rattle.power_cut.specs.Saving.{Saving, KeepsSaving}
+use Rattle.qspi_operation.specs.declared.Reply.{Reply}
+use Rattle.qspi_driver.specs.State.{lentTo}
+use Rattle.qspi_driver.specs.Promise.{Started, Steps}
+use Rattle.qspi_driver.specs.declared.state.Answer.{Answer}
+use Rattle.qspi_driver.proofs.SectorLists.{save-erases-none, lent-other}
 use Rattle.qspi_driver.specs.declared.Driven.{Driven}
 use Rattle.qspi_driver.specs.Driver.{Driver, Drive, drivenIf, drivenOf}
 use Rattle.qspi_driver.specs.Saved.{Saves, Untouched}
@@ -42,3 +47,14 @@ module _ (a : ℕ) (bytes rs log : List ℕ) (d : Driver) {o : Op} (started : (o
   untouched g =
       let at = decided g in
       record { driver = driver-is ∙ ap (λ (x : Drive). x .driver) at; answer = answer-is ∙ ap (λ (x : Drive). x .answer) at; logged = log-is ∙ ap (λ (x : Drive). x .log) at }
+
+-- ---- demand 3 while stepping, of every save: a save erases no list, so it is lent its caller's data
+
+-- THEOREM. A start of `write_pages` that is not busy is a save under way.
+pub save-starts : (a : ℕ) (bs log : List ℕ) (o : Op) {op o₁ : Op} {answer : Answer} → op ≡ writePagesOf a (length bs) (length log) → BeginsWith (length bs) (length log) (writePages a) op → ((i : ℕ) → getD bs i 0 < 256) → isGoing (o .status) ≡ false
+    → Started o op answer o₁ → Saving a bs o₁ log
+save-starts a bs log o e b octets g s = s .saves g (ap erasesList e ∙ save-erases-none a (length bs) (length log)) a bs log octets b
+
+-- THEOREM. A step of an operation that erases no list keeps a save, lent the caller's data.
+pub save-steps : (o : Op) (list bytes buffer log : List ℕ) (r : Reply) {answer : Answer} {o₁ : Op} {buffer₁ log₁ : List ℕ} → erasesList o ≡ false → Steps o (lentTo o list bytes) buffer log r answer o₁ buffer₁ log₁ → KeepsSaving o bytes buffer log o₁ log₁
+save-steps o list bytes buffer log r {o₁ = o₁} {log₁ = log₁} k s = subst (λ (z : List ℕ). KeepsSaving o z buffer log o₁ log₁) (lent-other o list bytes k) (s .saves)
