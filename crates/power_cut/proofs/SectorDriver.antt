@@ -1,17 +1,16 @@
 -- The states of a run of `erase_sectors` over lists, by name: the stage of a sector, the phase of its transfer, the sectors left and done. The phases are those of `write_pages`
 -- (proofs/Driver), of whatever transfer. Assumes nothing.
 use mathlib.Core.Path.{_≡_, refl, ap, _∙_, sym}
-use mathlib.Core.Bool.{Bool, true, false, not, _&&_, cond}
+use mathlib.Core.Bool.{Bool, true, false, not, _&&_}
 use mathlib.Core.List.{List, [], _∷_, _++_, append-nil, reverse}
-use Prim.Native.Nat.{ℕ, zero, suc, _+_, _≤_}
-use native.Mathlib.Omega.{arith}
+use Prim.Native.Nat.{ℕ, _≤_}
 use lib.ListN.{length, length-append}
 use lib.Seq.{append-snoc}
 use Rattle.zynq7000.specs.Bits.{isSet}
 use Rattle.qspi_script.specs.declared.Status.the-variants.{Done, EraseErrorBitSet}
 use Rattle.qspi_operation.specs.Machine.{Transfer, Script, counts, exchange, State, ended, onward, begin, next}
 use Rattle.qspi_calls.specs.Calls.{enabling, disabling, clearing, statusReading, erasing, top, refused, failing, settling, sectors}
-use Rattle.power_cut.proofs.Driver.{Phase, draining, dropping, opening, lowering, switching, sending, starting, releasing, waiting, again, taking, closing, raising, leaving, phaseAfter, takenAfter, isLast, inTransfer, transfer-next}
+use Rattle.power_cut.proofs.Driver.{Phase, draining, dropping, opening, lowering, switching, sending, starting, releasing, waiting, again, taking, closing, raising, leaving, phaseAfter, takenAfter, isLast, inTransfer}
 use Rattle.power_cut.proofs.Fits.{Split, Taken, split-next, taken-next}
 
 -- ---- a phase is its transfer's last, or another comes

@@ -6,17 +6,17 @@ use mathlib.Core.Bool.{Bool, true, false, not, _&&_}
 use mathlib.Core.List.{List, [], _∷_, _++_, head-eq-of-cons-eq}
 use native.Mathlib.Omega.{arith}
 use lib.Dec.{eqb}
-use lib.ListN.{length, getD, take, length-take}
+use lib.ListN.{length, getD, length-take}
 use borrow.Author.Tests.{eq-eqb, ne-eqb}
 use Rattle.zynq7000.specs.Bits.{isSet}
 use Rattle.zynq7000.specs.declared.qspi.Access.{Access}
 use Rattle.zynq7000.specs.declared.qspi.Access.the-variants.{Read, Write}
 use Rattle.zedboard_bsp.specs.Words.{topByte}
 use Rattle.qspi_calls.specs.Chunks.{Chunk}
-use Rattle.power_cut.specs.Flash.{Command, writeEnable, writeDisable, statusRead, clearStatus, nothing, pageProgram, sectorErase, commandOf, programOf, eraseOf}
+use Rattle.power_cut.specs.Flash.{Command, writeEnable, writeDisable, statusRead, clearStatus, nothing, pageProgram, sectorErase, commandOf, eraseOf}
 use Rattle.power_cut.specs.Controller.{registerAt, bytesOut, isStatusRead}
 use Rattle.power_cut.specs.Observer.{Transfer, closed, opened, unread}
-use Rattle.power_cut.specs.SectorObserver.{SectorsSeen, named, raised, configWritten, isClean, closing, enableWritten, seenWrite, seenRead, see, sees, seen}
+use Rattle.power_cut.specs.SectorObserver.{SectorsSeen, named, raised, configWritten, isClean, closing, enableWritten, seenWrite, seenRead, see, seen}
 use Rattle.power_cut.specs.SectorPromise.{NextSector, no-doubt, the-next, ShowsSectors}
 
 and-false : (x : Bool) → (x && false) ≡ false

@@ -2,30 +2,30 @@
 use mathlib.Core.Path.{_≡_, refl, ap, subst, _∙_, sym}
 use mathlib.Core.Bool.{Bool, true, false, cond}
 use mathlib.Core.List.{List, [], _∷_}
-use Prim.Native.Nat.{ℕ, zero, suc, _+_, _/_, _%_, _≤_, _<_, min}
+use Prim.Native.Nat.{ℕ, zero, suc, _+_, _/_, _%_, _≤_, min}
 use native.Mathlib.Omega.{arith}
 use lib.Dec.{ltb, eqb}
 use lib.ListN.{length, getD, take, length-take}
-use borrow.Author.Tests.{ltb-true, ltb-false}
-use Rattle.zynq7000.specs.Access.{encode, Loggable}
+use borrow.Author.Tests.{ltb-false}
+use Rattle.zynq7000.specs.Access.{encode}
 use Rattle.zedboard_bsp.specs.Limits.{sectorNumber}
 use Rattle.qspi_script.specs.Answer as says
 use Rattle.qspi_script.specs.Answer.{Said, Answered, saidBy}
 use Rattle.qspi_script.specs.declared.Status.{Status}
-use Rattle.qspi_script.specs.declared.Status.the-variants.{Going, Done, OutOfRange, Alignment, EraseErrorBitSet, RepliesEnded, LogFull, RepeatedSector, ListTooLong}
+use Rattle.qspi_script.specs.declared.Status.the-variants.{Going, OutOfRange, Alignment, RepeatedSector, ListTooLong}
 use Rattle.qspi_script.proofs.AnswerLaws.{said-fixes}
 use Rattle.qspi_operation.specs.declared.Op.{Op}
 use Rattle.qspi_operation.specs.declared.Stepped.{Stepped}
-use Rattle.qspi_operation.specs.Machine.{Script, State, ended, onward, begin, statusIn, valuesIn, countIn, Result, halt, runs, called, readsOf}
+use Rattle.qspi_operation.specs.Machine.{ended, begin, statusIn, valuesIn, countIn, Result, halt, runs, called, readsOf}
 use Rattle.qspi_operation.specs.Points.{Lending, outset, answeredOf}
-use Rattle.qspi_operation.specs.Follows.{Begun, RunFollows, answerBy, givenBy}
+use Rattle.qspi_operation.specs.Follows.{RunFollows, answerBy}
 use Rattle.qspi_operation.specs.Step.{isGoing, countedOf}
 use Rattle.qspi_operation.proofs.Orders.{run-ended}
 use Rattle.qspi_operation.proofs.PointLaws.{over-runs}
 use Rattle.qspi_operation.proofs.Stops.{Stop, at-end, no-room, no-reply, stopped}
 use Rattle.qspi_calls.specs.Begins.{BeginsList}
 use Rattle.qspi_calls.specs.Calls as call
-use Rattle.qspi_calls.specs.Calls.{refused, refusedAt, sectors, eraseSectors}
+use Rattle.qspi_calls.specs.Calls.{sectors, eraseSectors}
 use Rattle.qspi_calls.specs.Sectors.{sectorStatus, firstRefused, firstRepeat, numbers, numbersIn}
 use Rattle.qspi_calls.specs.OneByOne.{Accepted, SingleErases}
 use Rattle.qspi_calls.specs.declared.run.Ran.{Ran}
@@ -35,13 +35,11 @@ use Rattle.qspi_calls.proofs.ListOfSectors.{all-good}
 use Rattle.qspi_calls.proofs.Registers.{OnRegisters, on-end, on-count, either, works, runs-on-registers}
 use Rattle.qspi_calls.proofs.OneByOne.{single-erases}
 use Rattle.qspi_calls.proofs.Promised.{whole-call}
-use Rattle.power_cut.specs.SectorObserver.{seen}
 use Rattle.power_cut.specs.SectorPromise.{Cleared, placed, sectorsAnswer}
 use Rattle.power_cut.specs.declared.SectorsRan.{SectorsRan}
 use Rattle.power_cut.proofs.Offsets.{used-words}
 use Rattle.power_cut.proofs.SectorDriver.{Driver, at, succeeded, failed, stateOf}
-use Rattle.power_cut.proofs.SectorWatch.{Watched}
-use Rattle.power_cut.proofs.SectorTheorem.{in-range, watched, shows-sectors}
+use Rattle.power_cut.proofs.SectorTheorem.{in-range, watched, listed, shows-sectors}
 
 -- ---- the numbers that its run is lent
 
@@ -103,10 +101,7 @@ stop-fits r d e (no-reply o f g h i) = rw i
 pub place-fits : (l : List ℕ) (room : ℕ) (rs : List ℕ) → Fits (called (eraseSectors l) room rs .answer) (valuesIn (called (eraseSectors l) room rs .state))
 place-fits l room rs = go (ltb 256 (length l)) (ltb (firstRefused l) (length l)) refl (ltb (firstRepeat [] l) (length l))
   where
-    listed : Bool → Bool → Bool → Script
-    listed b₁ b₂ b₃ = onward b₁ (refused ListTooLong) (onward b₂ (refusedAt (sectorStatus (getD l (firstRefused l) 0)) (firstRefused l)) (onward b₃ (refusedAt RepeatedSector (firstRepeat [] l)) (sectors l)))
-
-    go : (b₁ b₂ : Bool) → ltb (firstRefused l) (length l) ≡ b₂ → (b₃ : Bool) → Fits (called (listed b₁ b₂ b₃) room rs .answer) (valuesIn (called (listed b₁ b₂ b₃) room rs .state))
+    go : (b₁ b₂ : Bool) → ltb (firstRefused l) (length l) ≡ b₂ → (b₃ : Bool) → Fits (called (listed l b₁ b₂ b₃) room rs .answer) (valuesIn (called (listed l b₁ b₂ b₃) room rs .state))
     go true b₂ e b₃ = at-once ListTooLong [] room rs refl
     go false true e b₃ = at-once (sectorStatus (getD l (firstRefused l) 0)) (firstRefused l ∷ []) room rs (refused-fits (getD l (firstRefused l) 0) (firstRefused l))
     go false false e true = at-once RepeatedSector (firstRepeat [] l ∷ []) room rs refl

@@ -2,27 +2,22 @@
 use mathlib.Core.Path.{_≡_, refl, ap, subst, _∙_, sym}
 use mathlib.Core.Bool.{Bool, true, false, cond}
 use mathlib.Core.List.{List, [], _∷_, _++_}
-use Prim.Native.Nat.{ℕ, zero, suc, _+_, _%_, _≤_, _<_}
+use Prim.Native.Nat.{ℕ, _+_, _%_, _<_}
 use native.Mathlib.Omega.{arith}
 use lib.Dec.{ltb, eqb}
 use lib.ListN.{length, getD, take, length-append}
 use lib.Seq.{take-append-seam, take-length, getD-append-seam}
 use borrow.Author.Tests.{ltb-false}
-use Rattle.zynq7000.specs.Access.{valueWord}
 use Rattle.zynq7000.specs.declared.qspi.Access.{Access}
 use Rattle.qspi_script.specs.declared.Status.{Status}
-use Rattle.qspi_script.specs.declared.Status.the-variants.{Going, Done, OutOfRange, Alignment, RepliesEnded, LogFull, RepeatedSector, ListTooLong}
-use Rattle.qspi_script.specs.Answer as answer
-use Rattle.qspi_script.specs.Answer.{saidBy}
-use Rattle.qspi_operation.specs.Machine.{Script, State, ended, onward, begin, Want, nothing, next, statusIn, valuesIn, countIn, Result, runs, called, Matches, m-read, m-write, Makes, after}
+use Rattle.qspi_script.specs.declared.Status.the-variants.{Going, Done, OutOfRange, Alignment, RepeatedSector, ListTooLong}
+use Rattle.qspi_operation.specs.Machine.{Want, nothing, Script, State, ended, onward, begin, statusIn, countIn, called, Matches, m-read, m-write, Makes, after}
 use Rattle.qspi_operation.proofs.Orders.{run-ended}
-use Rattle.qspi_operation.proofs.Stops.{Stop, at-end, no-room, no-reply, stopped}
-use Rattle.qspi_calls.specs.Promise.{oneOf}
 use Rattle.qspi_calls.specs.Sectors.{sectorStatus, firstRefused, firstRepeat}
 use Rattle.qspi_calls.specs.Calls.{refused, refusedAt, sectors, eraseSectors}
 use Rattle.qspi_calls.proofs.ListOfSectors.{Good, none, one, all-good}
-use Rattle.power_cut.specs.SectorObserver.{SectorsSeen, see, sees, fresh, seen}
-use Rattle.power_cut.specs.SectorPromise.{placed, NextSector, no-doubt, the-next, ShowsSectors}
+use Rattle.power_cut.specs.SectorObserver.{SectorsSeen, sees, fresh, seen}
+use Rattle.power_cut.specs.SectorPromise.{NextSector, no-doubt, the-next, ShowsSectors}
 use Rattle.power_cut.proofs.Watch.{risenAt}
 use Rattle.power_cut.proofs.Theorem.{follows-take}
 use Rattle.power_cut.proofs.SectorDriver as driver
@@ -112,14 +107,16 @@ in-range (a ∷ l) (one h e g) = (omega (arith, h), in-range l g)
 
 -- ---- the claim
 
+-- the script of a list, by the verdict of each of its three tests
+abbrev pub listed : List ℕ → Bool → Bool → Bool → Script
+listed l b₁ b₂ b₃ = onward b₁ (refused ListTooLong) (onward b₂ (refusedAt (sectorStatus (getD l (firstRefused l) 0)) (firstRefused l)) (onward b₃ (refusedAt RepeatedSector (firstRepeat [] l)) (sectors l)))
+
 -- THEOREM. Of every log that the call makes, of whatever list and whatever the replies: the sectors that it shows finished are the first of the list, as many as are counted, and at most the
 -- next one is in doubt. So it is at every cut point, with the count there.
 pub shows-sectors-at : (l : List ℕ) (log : List Access) → Makes (begin (eraseSectors l) [] 0) log → ShowsSectors l log (countIn (after (begin (eraseSectors l) [] 0) log))
 shows-sectors-at l log = go (ltb 256 (length l)) (ltb (firstRefused l) (length l)) refl (ltb (firstRepeat [] l) (length l))
   where
-    go : (b₁ b₂ : Bool) → ltb (firstRefused l) (length l) ≡ b₂ → (b₃ : Bool)
-        → Makes (begin (onward b₁ (refused ListTooLong) (onward b₂ (refusedAt (sectorStatus (getD l (firstRefused l) 0)) (firstRefused l)) (onward b₃ (refusedAt RepeatedSector (firstRepeat [] l)) (sectors l)))) [] 0) log
-        → ShowsSectors l log (countIn (after (begin (onward b₁ (refused ListTooLong) (onward b₂ (refusedAt (sectorStatus (getD l (firstRefused l) 0)) (firstRefused l)) (onward b₃ (refusedAt RepeatedSector (firstRepeat [] l)) (sectors l)))) [] 0) log))
+    go : (b₁ b₂ : Bool) → ltb (firstRefused l) (length l) ≡ b₂ → (b₃ : Bool) → Makes (begin (listed l b₁ b₂ b₃) [] 0) log → ShowsSectors l log (countIn (after (begin (listed l b₁ b₂ b₃) [] 0) log))
     go true b₂ e b₃ m = refused-shows l ListTooLong [] log m
     go false true e b₃ m = refused-shows l (sectorStatus (getD l (firstRefused l) 0)) (firstRefused l ∷ []) log m
     go false false e true m = refused-shows l RepeatedSector (firstRepeat [] l ∷ []) log m
@@ -137,3 +134,41 @@ pub shows-sectors-cut : (l : List ℕ) (room : ℕ) (replies : List ℕ) (k : �
 shows-sectors-cut l room rs k =
     let m = run-ended room (begin (eraseSectors l) [] 0) rs in
     shows-sectors-at l (take k (called (eraseSectors l) room rs .log)) (follows-take k (begin (eraseSectors l) [] 0) (called (eraseSectors l) room rs .log) (m .makes))
+
+-- ---- a call that succeeds
+
+-- no refusal of an entry is a success
+entry-not-done : (a : ℕ) → sectorStatus a ≡ Done → ⊥
+entry-not-done a = go (ltb 16777215 (a + 65536)) (eqb (a % 65536) 0)
+  where
+    go : (b c : Bool) → cond b OutOfRange (cond c Going Alignment) ≡ Done → ⊥
+    go true c e = let z : _≡_ {A = ℕ} 0 1 = cc in omega (arith, z)
+    go false true e = let z : _≡_ {A = ℕ} 0 1 = cc in omega (arith, z)
+    go false false e = let z : _≡_ {A = ℕ} 0 1 = cc in omega (arith, z)
+
+done-whole : (whole : List ℕ) (d : Driver) → driver.Good whole d → statusIn (stateOf d) ≡ Done → countIn (stateOf d) ≡ length whole
+done-whole whole (at s p taken a l k) g e = let z : _≡_ {A = ℕ} 0 1 = cc in absurd (omega (arith, z))
+done-whole whole (succeeded k) g e = ap length g
+done-whole whole (failed a l k) g e = let z : _≡_ {A = ℕ} 0 1 = cc in absurd (omega (arith, z))
+
+over-status : (a : Status) (vs : List ℕ) (log : List Access) → statusIn (after (ended a vs [] 0) log) ≡ a
+over-status a vs [] = refl
+over-status a vs (c ∷ log) = over-status a vs log
+
+all-done : (l : List ℕ) (log : List Access) → Makes (begin (eraseSectors l) [] 0) log → statusIn (after (begin (eraseSectors l) [] 0) log) ≡ Done → countIn (after (begin (eraseSectors l) [] 0) log) ≡ length l
+all-done l log = go (ltb 256 (length l)) (ltb (firstRefused l) (length l)) refl (ltb (firstRepeat [] l) (length l))
+  where
+    go : (b₁ b₂ : Bool) → ltb (firstRefused l) (length l) ≡ b₂ → (b₃ : Bool) → Makes (begin (listed l b₁ b₂ b₃) [] 0) log → statusIn (after (begin (listed l b₁ b₂ b₃) [] 0) log) ≡ Done
+        → countIn (after (begin (listed l b₁ b₂ b₃) [] 0) log) ≡ length l
+    go true b₂ e b₃ m f = let i = sym (over-status ListTooLong [] log) ∙ f in let z : _≡_ {A = ℕ} 0 1 = cc in absurd (omega (arith, z))
+    go false true e b₃ m f = absurd (entry-not-done (getD l (firstRefused l) 0) (sym (over-status (sectorStatus (getD l (firstRefused l) 0)) (firstRefused l ∷ []) log) ∙ f))
+    go false false e true m f = let i = sym (over-status RepeatedSector (firstRepeat [] l ∷ []) log) ∙ f in let z : _≡_ {A = ℕ} 0 1 = cc in absurd (omega (arith, z))
+    go false false e false m f =
+        let w = watched l (in-range l (all-good l (ltb-false (firstRefused l) (length l) e))) log m in
+        ap countIn (w .stands) ∙ done-whole l (w .driver) (w .good) (ap statusIn (sym (w .stands)) ∙ f)
+
+-- THEOREM. Where the call succeeds, it counts the whole list.
+pub whole-list : (l : List ℕ) (room : ℕ) (replies : List ℕ) → called (eraseSectors l) room replies .answer ≡ Done → countIn (called (eraseSectors l) room replies .state) ≡ length l
+whole-list l room rs e =
+    let m = run-ended room (begin (eraseSectors l) [] 0) rs in
+    ap countIn (m .is) ∙ all-done l (called (eraseSectors l) room rs .log) (m .makes) (ap statusIn (sym (m .is)) ∙ m .done e)

@@ -1,8 +1,8 @@
 -- What the observer of sectors has seen follows the driver, whatever the replies: at each state it is a function of the state. Assumes nothing.
 use mathlib.Core.Path.{_≡_, refl, ap, _∙_, sym}
 use mathlib.Core.Bool.{Bool, true, false, not, _&&_, cond, true≢false}
-use mathlib.Core.List.{List, [], _∷_, _++_, reverse}
-use Prim.Native.Nat.{ℕ, zero, suc, _+_, _/_, _%_, _^_, _≤_}
+use mathlib.Core.List.{List, [], _∷_, _++_}
+use Prim.Native.Nat.{ℕ, zero, suc, _/_, _%_, _^_, _≤_}
 use native.Mathlib.Omega.{arith}
 use lib.ListN.{length}
 use Rattle.zynq7000.specs.Access.{valueWord}
@@ -17,7 +17,7 @@ use Rattle.qspi_transfer.specs.Wire.{waits}
 use Rattle.qspi_operation.specs.Machine as machine
 use Rattle.qspi_operation.specs.Machine.{wantAt, want, next, Matches, m-read, m-write}
 use Rattle.qspi_calls.proofs.Phases.{words}
-use Rattle.power_cut.specs.Flash.{sectorErase, commandOf, programOf, eraseOf, addressOf}
+use Rattle.power_cut.specs.Flash.{sectorErase, commandOf, eraseOf, addressOf}
 use Rattle.power_cut.specs.Controller.{tx, registerAt, bytesOut, high, isStatusRead}
 use Rattle.power_cut.specs.Observer.{Transfer, closed, opened}
 use Rattle.power_cut.specs.SectorObserver.{SectorsSeen, commanded, raised, configWritten, isClean, enableWritten, seenWrite, seenRead, see}
@@ -26,7 +26,7 @@ use Rattle.power_cut.proofs.Driver.{Phase, draining, dropping, opening,
 use Rattle.power_cut.proofs.Fits.{Split, Taken}
 use Rattle.power_cut.proofs.Levels.{high-put, high-clear}
 use Rattle.power_cut.proofs.Watch.{flat, flat-snoc, newest, newest-one, upAt, risenAt}
-use Rattle.power_cut.proofs.SectorDriver.{Next, the-last, goes-on, next-of, Stage, enables, erases, polls, clears, disables, transferOf, thenOf, Driver, at, succeeded, failed, stateOf, startNext, settled, stageAfter, next-stage, InRange, Going, Good, good-stage, good-phase}
+use Rattle.power_cut.proofs.SectorDriver.{Next, the-last, goes-on, next-of, Stage, enables, erases, polls, clears, disables, transferOf, thenOf, Driver, at, succeeded, failed, stateOf, startNext, settled, stageAfter, next-stage, Going, Good, good-stage, good-phase}
 
 abbrev pub showing : Transfer → Bool → List ℕ → List ℕ → SectorsSeen
 showing t h q k = record { transfer = t; up = h; doubt = q; finished = k }

@@ -8,7 +8,7 @@ use Rattle.zynq7000.specs.declared.qspi.Access.{Access}
 use Rattle.qspi_script.specs.Answer.{Answered, saidBy}
 use Rattle.qspi_script.specs.declared.Status.{Status}
 use Rattle.qspi_script.specs.declared.Status.the-variants.{Going, Done, OutOfRange, Alignment, DataTooLarge, NotAligned, CrossesPageBoundary, AddressSpan, FieldTooWide, EraseErrorBitSet, ProgrammingErrorBitSet, RepliesEnded, LogFull, LentLengthChanged, RepeatedSector, ListTooLong}
-use Rattle.power_cut.specs.SectorObserver.{SectorsSeen, seen}
+use Rattle.power_cut.specs.SectorObserver.{seen}
 use Rattle.power_cut.specs.declared.SectorsRan.{SectorsRan}
 
 -- ---- the answer
