@@ -56,13 +56,15 @@ fn letter(letter: u8, left: usize) -> usize {
     left
 }
 
-// An answer by document 01's number and name; 0 is done.
+// An answer by the papers' number and name; 0 is done.
 pub fn answer(number: u32) {
     let names = b"\
         Done|OutOfRange|Alignment|DataTooLarge|NotAligned|CrossesPageBoundary|RefDivOutOfRange|\
         RefClockSmallerThanCpu1xClock|ZeroClock|TargetTooFast|AddressSpan|UnknownCode|FieldTooWide|BadLog|\
         |||||||\
         EraseErrorBitSet|ProgrammingErrorBitSet|RepliesEnded|LogFull|LentLengthChanged|\
+        ||||||\
+        RepeatedSector|ListTooLong|\
     ";
     decimal(b"", number as usize);
     text(b" ");

@@ -1,9 +1,11 @@
 // What the calls of a request take, and how they start.
 use crate::items;
 use crate::request;
+use crate::sectors;
 use qspi_calls::start;
 use qspi_operation::Op;
 use sim_report::calls::ERASE_SECTOR;
+use sim_report::calls::ERASE_SECTORS;
 use sim_report::calls::PROGRAM;
 use sim_report::calls::READ_FAST_READ;
 use sim_report::calls::READ_PAGE_READ;
@@ -11,14 +13,17 @@ use sim_report::calls::WRITE_PAGES;
 
 // Whether the call takes an item. What it takes it needs, but for `dummy`.
 pub fn takes(call: usize, item: usize) -> bool {
+    if item == items::SECTORS {
+        return call == ERASE_SECTORS;
+    }
     if item == items::ADDRESS {
-        return ERASE_SECTOR <= call;
+        return ERASE_SECTOR <= call && call <= READ_FAST_READ;
     }
     if item == items::DATA {
         return call == PROGRAM || call == WRITE_PAGES;
     }
     if item == items::LENGTH {
-        READ_PAGE_READ <= call
+        call == READ_PAGE_READ || call == READ_FAST_READ
     } else {
         call == READ_FAST_READ
     }
@@ -35,10 +40,11 @@ pub fn begin(request: &[usize], data: usize, buffer: usize, log: usize) -> Op {
         9 => start::program(address, data, log),
         10 => start::write_pages(address, data, log),
         11 => start::read_page_read(address, buffer, log),
-        _ => {
+        12 => {
             let dummy = items::of(request, items::DUMMY) == 1;
             start::read_fast_read(address, dummy, buffer, log)
         }
+        _ => sectors::begin(request, log),
     }
 }
 

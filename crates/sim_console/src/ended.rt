@@ -1,5 +1,7 @@
 // How a run ended, as far as it is printed.
+use crate::sectors;
 use qspi_operation::Op;
+use qspi_script::Gives;
 use qspi_script::Stage;
 use qspi_transfer::Phase;
 use sim_report::Ended;
@@ -30,17 +32,32 @@ fn is_erasing(op: Op) -> bool {
     }
 }
 
-pub fn of_run(ran: Ran) -> Ended {
+// The entry that a list is refused for.
+fn refused_place(op: Op) -> usize {
+    let job = op.job;
+    let script = job.script;
+    let gives = script.gives;
+    if let Gives::Place(place) = gives {
+        place as usize
+    } else {
+        sim_report::NO_PLACE
+    }
+}
+
+pub fn of_run(request: &[usize], ran: Ran) -> Ended {
     let op = ran.op;
     let wire = op.wire;
     let answer = ran.answer;
+    let counted = qspi_operation::counted(op);
     Ended {
         answer,
+        place: refused_place(op),
         used: op.used,
         replies: op.replies,
-        programmed: qspi_operation::programmed(op),
+        counted,
         refused: ran.refused,
         erasing: is_erasing(op),
+        sector: sectors::at_hand(request, counted),
         older: wire.older,
         old: wire.old,
         last: wire.last,

@@ -4,7 +4,7 @@ use printing::decimal;
 use printing::entry;
 use printing::text;
 
-const WORDS: [u8; 461] = *b"\
+const WORDS: [u8; 544] = *b"\
     |\
     the input has more than 32767 bytes|\
     the line has more than 1024 bytes|\
@@ -24,6 +24,8 @@ const WORDS: [u8; 461] = *b"\
     missing, this call needs it|\
     this call does not take it|\
     outside of the 131072 bytes from the start of the call's sector on|\
+    more than 300 sectors|\
+    outside of the 524288 bytes from the list's lowest sector on|\
 ";
 
 pub const NOTHING: usize = 0;
@@ -63,6 +65,10 @@ pub const NEEDED: usize = 16;
 pub const NOT_TAKEN: usize = 17;
 
 pub const OUTSIDE: usize = 18;
+
+pub const TOO_MANY_SECTORS: usize = 19;
+
+pub const OUTSIDE_OF_LIST: usize = 20;
 
 fn name(item: usize) {
     if item < items::UNKNOWN {

@@ -1,7 +1,9 @@
 // The items of a request, by their places in the table of their names. What the lines say of them stands
-// in one lent slice: the value of each; the line that each was on, 0 where there was none; and which line
-// was read last, of which item.
-pub const NAMES: [u8; 62] = *b"call|address|data|length|dummy|busy|gap|log|replies|cut|holds|";
+// in one lent slice: the value of each; the line that each was on, 0 where there was none; which line was
+// read last, of which item; and the entries of the list of sectors, whose value is how many there are.
+pub const NAMES: [u8; 70] = *b"\
+    call|address|data|length|dummy|busy|gap|log|replies|cut|holds|sectors|\
+";
 
 pub const CALL: usize = 0;
 
@@ -25,10 +27,15 @@ pub const CUT: usize = 9;
 
 pub const HOLDS: usize = 10;
 
-pub const UNKNOWN: usize = 11;
+pub const SECTORS: usize = 11;
+
+pub const UNKNOWN: usize = 12;
 
 // Bytes of data, or to be read.
 pub const MOST_BYTES: usize = 4096;
+
+// Entries of a list: more than a call takes, so that its refusal can be asked for.
+pub const MOST_SECTORS: usize = 300;
 
 // Accesses that the log has room for.
 pub const MOST_ACCESSES: usize = 16384;
@@ -39,42 +46,27 @@ pub const UNLIMITED: usize = 0xFFFF_FFFF;
 // `cut all`.
 pub const EVERY: usize = 0xFFFF_FFFF;
 
-// Where the line of the first item stands, the line read last, and its item.
-const LINES: usize = 11;
+// Where the line of the first item stands, the line read last, its item, and the list's first entry.
+const LINES: usize = 12;
 
-pub const LAST_LINE: usize = 22;
+pub const LAST_LINE: usize = 24;
 
-pub const LAST_ITEM: usize = 23;
+pub const LAST_ITEM: usize = 25;
 
-pub const SAID: usize = 24;
+const ENTRIES: usize = 26;
+
+const SAID: usize = 326;
 
 // Before the first line.
-pub const DEFAULTS: [usize; SAID] = [
-    0,
-    0,
-    0,
-    0,
-    1,
-    0,
-    0,
-    MOST_ACCESSES,
-    UNLIMITED,
-    sim_report::NEVER,
-    0,
-    0,
-    0,
-    0,
-    0,
-    0,
-    0,
-    0,
-    0,
-    0,
-    0,
-    0,
-    0,
-    UNKNOWN,
-];
+pub fn defaults() -> [usize; SAID] {
+    let mut said = [0; SAID];
+    said[DUMMY] = 1;
+    said[LOG] = MOST_ACCESSES;
+    said[REPLIES] = UNLIMITED;
+    said[CUT] = sim_report::NEVER;
+    said[LAST_ITEM] = UNKNOWN;
+    said
+}
 
 // The value of an item.
 pub fn of(said: &[usize], item: usize) -> usize {
@@ -95,6 +87,18 @@ fn put(said: &mut [usize], at: usize, n: usize) {
 pub fn say(said: &mut [usize], item: usize, value: usize, line: usize) {
     put(said, item, value);
     put(said, std::num::wrapping_add_usize(LINES, item), line);
+}
+
+// An entry of the list.
+pub fn entry(said: &[usize], place: usize) -> usize {
+    of(said, std::num::wrapping_add_usize(ENTRIES, place))
+}
+
+// One entry more, for which the caller sees that there is room.
+pub fn add_entry(said: &mut [usize], entry: usize) {
+    let count = of(said, SECTORS);
+    put(said, std::num::wrapping_add_usize(ENTRIES, count), entry);
+    put(said, SECTORS, std::num::wrapping_add_usize(count, 1));
 }
 
 // Where a fault is, if there is one.

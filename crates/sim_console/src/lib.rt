@@ -3,7 +3,7 @@
 ghost use Prim.Native.Nat.{_≤_};
 use crate::items::MOST_ACCESSES;
 use crate::items::MOST_BYTES;
-use crate::request::PART;
+use crate::request::LIST_PART;
 use crate::words::least;
 use libc::STDIN_FILENO;
 use sim_report::Ended;
@@ -17,6 +17,7 @@ mod lines;
 mod numbers;
 mod report;
 mod request;
+mod sectors;
 mod words;
 
 const INPUT: usize = 32768;
@@ -34,7 +35,7 @@ pub fn simulate_input() {
 }
 
 fn too_long(line: usize) {
-    let mut said = items::DEFAULTS;
+    let mut said = items::defaults();
     items::stand_at(&mut said, line, items::UNKNOWN);
     fault::print(fault::LONG_INPUT, &said);
 }
@@ -54,9 +55,9 @@ fn last_line(input: &[u8]) -> usize {
 
 // A request that is at hand as text.
 pub fn simulate_text(input: &[u8]) {
-    let mut said = items::DEFAULTS;
+    let mut said = items::defaults();
     let mut data = [0u8; MOST_BYTES];
-    let mut array = [0xFFu8; PART];
+    let mut array = [0xFFu8; LIST_PART];
     let wrong = request::read(input, &mut said, &mut data, &mut array);
     if wrong == fault::NOTHING {
         simulate(&said, &data, &mut array);
@@ -73,13 +74,25 @@ fn copy(from: &[u8], to: &mut [u8]) {
     }
 }
 
-// The call is lent its memory; what the array held is kept beside it.
+// The data of a list are the numbers of its sectors.
 fn simulate(request: &[usize], data: &[u8], array: &mut [u8]) {
-    let mut before = [0u8; PART];
+    let end = least(request::part_of(request), array.len());
+    if request::has_list(request) {
+        let numbers = sectors::numbered(request);
+        let count = items::of(request, items::SECTORS);
+        on_data(request, words::part(&numbers, 0, count), &mut array[0..end]);
+    } else {
+        let count = items::of(request, items::DATA);
+        on_data(request, words::part(data, 0, count), &mut array[0..end]);
+    }
+}
+
+// The call is lent its memory; what the array held is kept beside it.
+fn on_data(request: &[usize], data: &[u8], array: &mut [u8]) {
+    let mut before = [0u8; LIST_PART];
     let mut buffer = [0u8; MOST_BYTES];
     let mut log = [0u32; WORDS];
     copy(array, &mut before);
-    let data = words::part(data, 0, items::of(request, items::DATA));
     let len = least(items::of(request, items::LENGTH), MOST_BYTES);
     lent(request, data, &mut buffer[0..len], &mut log, &before, array);
 }
@@ -126,7 +139,7 @@ fn run(
 ) -> Ended {
     let mut sent = [0u8; 256];
     let mut received = [0u32; 128];
-    ended::of_run(simulated_device::run::run(
+    let ran = simulated_device::run::run(
         calls::begin(request, data.len(), buffer.len(), log.len()),
         simulated_device::at_rest(choices(request)),
         items::of(request, items::REPLIES),
@@ -136,7 +149,8 @@ fn run(
         &mut sent,
         &mut received,
         array,
-    ))
+    );
+    ended::of_run(request, ran)
 }
 
 // Every cut, up to the first that the run does not reach.

@@ -122,6 +122,40 @@ fn further_data(rest: &[u8], line: usize, said: &mut [usize], data: &mut [u8]) -
     }
 }
 
+// One entry more of the list.
+fn further_sector(word: &[u8], said: &mut [usize]) -> usize {
+    if items::MOST_SECTORS <= items::of(said, items::SECTORS) {
+        return fault::TOO_MANY_SECTORS;
+    }
+    match address(word) {
+        Value::Bad(wrong) => wrong,
+        Value::Is(entry) => {
+            items::add_entry(said, entry);
+            fault::NOTHING
+        }
+    }
+}
+
+// The entries of a `sectors` line, behind those of the lines before it.
+fn further_sectors(rest: &[u8], line: usize, said: &mut [usize]) -> usize {
+    let count = items::of(said, items::SECTORS);
+    items::say(said, items::SECTORS, count, line);
+    let mut at = 0;
+    while at < rest.len() {
+        let word = words::word_from(rest, at);
+        let end = word.to;
+        if end == word.from {
+            return fault::NOTHING;
+        }
+        let wrong = further_sector(words::word_in(rest, word), said);
+        if wrong != fault::NOTHING {
+            return wrong;
+        }
+        at = end;
+    }
+    fault::NOTHING
+}
+
 // The bytes of a `holds` line.
 fn held(rest: &[u8], base: usize, end: usize, array: &mut [u8]) -> usize {
     let word = words::word_from(rest, 0);
@@ -189,6 +223,9 @@ fn of_item(
     }
     if item == items::DATA {
         return further_data(rest, line, said, bytes);
+    }
+    if item == items::SECTORS {
+        return further_sectors(rest, line, said);
     }
     single(item, rest, line, said)
 }

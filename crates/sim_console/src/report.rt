@@ -1,6 +1,7 @@
 // A request's run is handed to `sim_report`, with what the observer makes of its log.
 use crate::items;
 use crate::request;
+use crate::sectors;
 use sim_report::Case;
 use sim_report::Ended;
 use sim_report::Shown;
@@ -40,12 +41,32 @@ pub fn whole(
     array: &[u8],
 ) {
     let seen = seen(log, ended.used);
-    sim_report::whole(case(request), ended, seen, log, buffer, before, array);
+    let list = sectors::entries(request);
+    let taken = sectors::taken(request);
+    sim_report::whole(
+        case(request),
+        ended,
+        seen,
+        sectors::front(&list, taken),
+        log,
+        buffer,
+        before,
+        array,
+    );
 }
 
 pub fn cut_line(request: &[usize], ended: Ended, log: &[u32], before: &[u8], array: &[u8]) {
     let seen = seen(log, ended.used);
-    sim_report::cut_line(case(request), ended, seen, before, array);
+    let list = sectors::entries(request);
+    let taken = sectors::taken(request);
+    sim_report::cut_line(
+        case(request),
+        ended,
+        seen,
+        sectors::front(&list, taken),
+        before,
+        array,
+    );
 }
 
 // Says where the device could not go on.

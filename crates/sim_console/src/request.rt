@@ -1,10 +1,11 @@
 // A request, one item a line. Words are apart by spaces; blank lines and those that begin with # are
-// skipped. Each item stands there once at most, but for `data` and `holds`. A line has up to 1024 bytes,
-// all of them up to 32767.
+// skipped. Each item stands there once at most, but for `data`, `sectors` and `holds`. A line has up to
+// 1024 bytes, all of them up to 32767.
 //
 //   call NAME        one of `calls`
 //   address HEX      up to eight digits
 //   data HEX ..      pairs of digits; further lines are appended; up to 4096 bytes, or none
+//   sectors HEX ..   addresses, for `erase_sectors`; further lines are appended; up to 300, or none
 //   length N         bytes to read, up to 4096
 //   dummy yes|no     whether `read_fast_read` drops a dummy byte, as the flash sends one; yes by default
 //   busy N           status reads that show busy after a program or an erase; 0 by default
@@ -20,10 +21,14 @@ use crate::calls;
 use crate::fault;
 use crate::items;
 use crate::lines;
+use crate::sectors;
 use crate::words;
+use sim_report::calls::ERASE_SECTORS;
 
-// The part of the array that is lent.
-pub const PART: usize = 131072;
+// The part of the array that is lent: two sectors, and eight to a list.
+const PART: usize = 131072;
+
+pub const LIST_PART: usize = 524288;
 
 // What is wrong with an item of this call, which was on a line or, with 0, on none.
 fn fitting(call: usize, item: usize, line: usize) -> usize {
@@ -49,19 +54,27 @@ fn told_by(wrong: usize, item: usize) -> usize {
     }
 }
 
+// Whether there is an item if the call needs it, and only if it takes it.
+fn checked_item(call: usize, item: usize, said: &mut [usize]) -> usize {
+    let wrong = fitting(call, item, items::line_of(said, item));
+    if wrong != fault::NOTHING {
+        let line = items::line_of(said, told_by(wrong, item));
+        items::stand_at(said, line, item);
+    }
+    wrong
+}
+
 // Whether there is what the call needs, and nothing else.
 fn checked(call: usize, said: &mut [usize]) -> usize {
     let mut item = items::ADDRESS;
     while item <= items::DUMMY {
-        let wrong = fitting(call, item, items::line_of(said, item));
+        let wrong = checked_item(call, item, said);
         if wrong != fault::NOTHING {
-            let line = items::line_of(said, told_by(wrong, item));
-            items::stand_at(said, line, item);
             return wrong;
         }
         item += 1;
     }
-    fault::NOTHING
+    checked_item(call, items::SECTORS, said)
 }
 
 // Reads all items; of what the flash holds only whether it is said well.
@@ -86,20 +99,55 @@ pub fn read(input: &[u8], said: &mut [usize], data: &mut [u8], array: &mut [u8])
         return wrong;
     }
     let base = base_of(said) as usize;
-    lines::read(input, base, end_of(base), said, array)
+    let end = end_of(base, part_of(said));
+    if sectors::are_beyond(said, end) {
+        let line = items::line_of(said, items::SECTORS);
+        items::stand_at(said, line, items::SECTORS);
+        return fault::OUTSIDE_OF_LIST;
+    }
+    let wrong = lines::read(input, base, end, said, array);
+    outside_of(has_list(said), wrong)
 }
 
-// The part is the sector of the call's address, which has 24 bits in the flash, and the next, up to the
-// array's end.
-fn end_of(base: usize) -> usize {
-    words::least(std::num::wrapping_add_usize(base, PART), 0x100_0000)
+fn outside_of(is_list: bool, wrong: usize) -> usize {
+    if wrong == fault::OUTSIDE && is_list {
+        fault::OUTSIDE_OF_LIST
+    } else {
+        wrong
+    }
 }
 
-// Where the part begins.
+// Whether the call takes a list.
+pub fn has_list(request: &[usize]) -> bool {
+    items::of(request, items::CALL) == ERASE_SECTORS
+}
+
+// How many bytes the part has.
+pub fn part_of(request: &[usize]) -> usize {
+    if has_list(request) { LIST_PART } else { PART }
+}
+
+// The part ends with the array at the latest.
+fn end_of(base: usize, part: usize) -> usize {
+    words::least(std::num::wrapping_add_usize(base, part), 0x100_0000)
+}
+
+// Where the part begins: at the sector of the call's address, or at the lowest of its list.
 pub fn base_of(request: &[usize]) -> u32
     ensures base { λ r. ⌜ r < 16777216 ⌝ }
 {
-    address(request) % 0x100_0000 / 0x1_0000 * 0x1_0000
+    if has_list(request) {
+        sectors::base_of(request)
+    } else {
+        sector_of(address(request))
+    }
+}
+
+// The sector of an address, which has 24 bits in the flash.
+pub fn sector_of(address: u32) -> u32
+    ensures sector { λ r. ⌜ r < 16777216 ⌝ }
+{
+    address % 0x100_0000 / 0x1_0000 * 0x1_0000
 }
 
 pub fn address(request: &[usize]) -> u32 {

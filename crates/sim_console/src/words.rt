@@ -79,8 +79,11 @@ pub fn place(table: &[u8], word: &[u8]) -> usize {
 }
 
 // The next word of a line.
-pub fn word_from(line: &[u8], at: usize) -> Word {
-    let from = past(line, least(at, line.len()), b' ', true);
+pub fn word_from(line: &[u8], at: usize) -> Word
+    requires { ⌜ at ≤ length (now line) ⌝ }
+    ensures further { λ r. ⌜ (at ≤ r .from) × ((r .from ≤ r .to) × (r .to ≤ length (now (line .entry)))) ⌝ }
+{
+    let from = past(line, at, b' ', true);
     let to = past(line, from, b' ', false);
     Word { from, to }
 }

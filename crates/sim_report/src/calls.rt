@@ -1,5 +1,5 @@
 // The calls that a request can name, by the Rust's names and by their places in this table.
-pub const NAMES: [u8; 196] = *b"\
+pub const NAMES: [u8; 210] = *b"\
     write_enable|\
     write_disable|\
     clear_status|\
@@ -13,6 +13,7 @@ pub const NAMES: [u8; 196] = *b"\
     write_pages|\
     read_page_read|\
     read_fast_read|\
+    erase_sectors|\
 ";
 
 pub const READ_RDID_EXTENDED: usize = 7;
@@ -27,4 +28,6 @@ pub const READ_PAGE_READ: usize = 11;
 
 pub const READ_FAST_READ: usize = 12;
 
-pub const CALLS: usize = 13;
+pub const ERASE_SECTORS: usize = 13;
+
+pub const CALLS: usize = 14;

@@ -1,8 +1,10 @@
 // What is printed of a run: the log; the answer, or the cut; the used counts; `programmed` of
-// `write_pages`; `finished` of this and `program`; `in doubt` of these and `erase_sector`; the register,
-// id or bytes of a read that is done; and the pages that changed. Of `cut all`, one line a cut.
+// `write_pages`; `finished` of this, `program` and `erase_sectors`; `in doubt` of these and
+// `erase_sector`; the sectors of a list; the register, id or bytes of a read that is done; and the pages
+// that changed. Of `cut all`, one line a cut.
 ghost use Prim.Native.Nat.{_≤_, _<_};
 use printing::decimal;
+use printing::entry;
 use printing::hex;
 use printing::text;
 use qspi_script::Status;
@@ -16,8 +18,13 @@ const PORTION: usize = 1024;
 
 const PAGE: usize = 256;
 
+const SECTOR: usize = 65536;
+
 // No cut is asked for.
 pub const NEVER: usize = 0x1_0000_0000;
+
+// No entry of a list is refused.
+pub const NO_PLACE: usize = 256;
 
 // The call, by its place among `calls`; its address; where the part of the array begins that is lent; and
 // after how many accesses the power fails.
@@ -31,13 +38,17 @@ pub struct Case {
 // How a run ended, as far as it is printed.
 pub struct Ended {
     pub answer: Status,
+    // The entry of a list that the answer is about.
+    pub place: usize,
     pub used: usize,
     pub replies: usize,
-    pub programmed: usize,
+    // The bytes that `write_pages` programmed, or the sectors that a list finished.
+    pub counted: usize,
     // The device could not go on.
     pub refused: bool,
-    // The erase command is out, and the status loop has not ended.
+    // The erase command of the sector is out, and the status loop has not ended.
     pub erasing: bool,
+    pub sector: u32,
     // The last three replies.
     pub older: u32,
     pub old: u32,
@@ -117,15 +128,22 @@ fn is_done(status: Status) -> bool {
     }
 }
 
+fn entry_place(place: usize) {
+    if place < NO_PLACE {
+        counted(b"place ", place, b"\n");
+    }
+}
+
 // The answer, or the cut in its place.
-fn end(cut: usize, answered: Status, made: usize) {
+fn end(cut: usize, answered: Status, place: usize, made: usize) {
     if cut == made {
         return counted(b"cut after ", made, b" accesses\n");
     }
     if cut < NEVER {
         counted(b"ended after ", made, b" accesses, before the cut\n");
     }
-    answer(answered)
+    answer(answered);
+    entry_place(place)
 }
 
 // Where the device could not go on.
@@ -148,17 +166,17 @@ fn nowhere() -> Spot {
 }
 
 // The log tells of a page program's chunk, and where an erase stands of its sector.
-fn known(address: u32, is_erasing: bool, seen: Shown) -> Shown {
+fn known(sector: u32, is_erasing: bool, seen: Shown) -> Shown {
     let chunk = seen.doubt;
-    let sector = Spot {
+    let erased = Spot {
         there: true,
-        address,
-        length: 0x1_0000,
+        address: sector,
+        length: SECTOR as u32,
     };
     Shown {
         finished: seen.finished,
         bytes: seen.bytes,
-        doubt: if is_erasing { sector } else { chunk },
+        doubt: if is_erasing { erased } else { chunk },
     }
 }
 
@@ -183,16 +201,19 @@ fn programs(call: usize) -> bool {
 }
 
 fn works(call: usize) -> bool {
-    programs(call) || call == calls::ERASE_SECTOR
+    programs(call) || call == calls::ERASE_SECTOR || call == calls::ERASE_SECTORS
 }
 
-fn chunks(call: usize, programmed: usize, shown: Shown) {
+fn chunks(call: usize, count: usize, shown: Shown) {
     if call == calls::WRITE_PAGES {
-        counted(b"programmed ", programmed, b"\n");
+        counted(b"programmed ", count, b"\n");
     }
     if programs(call) {
         decimal(b"finished ", shown.finished);
         counted(b", bytes ", shown.bytes, b"\n");
+    }
+    if call == calls::ERASE_SECTORS {
+        counted(b"finished ", count, b"\n");
     }
     if works(call) {
         in_doubt(b"in doubt ", b"in doubt none", shown.doubt);
@@ -342,14 +363,22 @@ fn is_unchanged(before: &[u8], after: &[u8]) -> bool {
     true
 }
 
-// The page at a place, where there is one.
-fn page_in(s: &[u8], from: usize) -> &[u8] {
+// The page or the sector at a place, where there is one.
+fn piece(s: &[u8], from: usize, size: usize) -> &[u8] {
     if from <= s.len() {
-        if PAGE <= s.len() - from {
-            return &s[from..from + PAGE];
+        if size <= s.len() - from {
+            return &s[from..from + size];
         }
     }
     &s[0..0]
+}
+
+// The pages of a sector in doubt are not printed: nothing is known of any byte.
+fn is_printed(doubt: Spot, place: u32) -> bool {
+    if doubt.length as usize <= PAGE {
+        return true;
+    }
+    !touches(doubt, place)
 }
 
 // 1 for a page that changed or may have.
@@ -359,7 +388,7 @@ fn page(before: &[u8], after: &[u8], place: u32, doubt: Spot, is_shown: bool) ->
             return 0;
         }
     }
-    if is_shown {
+    if is_shown && is_printed(doubt, place) {
         address(b"page ", place);
         text(b"\n");
         rows(b"", after, place, doubt);
@@ -376,8 +405,8 @@ fn page_at(
     is_shown: bool,
 ) -> usize {
     page(
-        page_in(before, from),
-        page_in(array, from),
+        piece(before, from, PAGE),
+        piece(array, from, PAGE),
         further(base, from),
         doubt,
         is_shown,
@@ -396,57 +425,123 @@ fn pages(before: &[u8], array: &[u8], base: u32, doubt: Spot, is_shown: bool) ->
     count
 }
 
-// The pages of a sector in doubt are not printed: nothing is known of any byte.
 fn changes(before: &[u8], array: &[u8], base: u32, doubt: Spot) {
-    let is_shown = doubt.length as usize <= PAGE;
-    if pages(before, array, base, doubt, is_shown) == 0 {
+    if pages(before, array, base, doubt, true) == 0 {
         text(b"no page changed\n");
+    }
+}
+
+// ---- the sectors of a list
+
+// What a sector holds: FF throughout, what it held before, or neither; in doubt it may hold anything.
+const HOLDINGS: [u8; 19] = *b"FF|before|mixed|??|";
+
+fn is_erased(sector: &[u8]) -> bool {
+    let mut i = 0;
+    while i < sector.len() {
+        if sector[i] != 0xFF {
+            return false;
+        }
+        i += 1;
+    }
+    true
+}
+
+// The place of what it holds among the words for it.
+fn holding(before: &[u8], after: &[u8], is_doubtful: bool) -> usize {
+    if is_doubtful {
+        return 3;
+    }
+    if is_erased(after) {
+        return 0;
+    }
+    if is_unchanged(before, after) { 1 } else { 2 }
+}
+
+fn held_by(sector: u32, before: &[u8], array: &[u8], base: u32, doubt: Spot) {
+    let from = std::num::wrapping_sub_u32(sector, base) as usize;
+    let held = holding(
+        piece(before, from, SECTOR),
+        piece(array, from, SECTOR),
+        lies_in(doubt, sector),
+    );
+    text(b" ");
+    entry(&HOLDINGS, held);
+}
+
+// A sector by its address, on a line of its own; or only what it holds, in the line of a cut.
+fn sector(sector: u32, before: &[u8], array: &[u8], base: u32, doubt: Spot, is_line: bool) {
+    if is_line {
+        address(b"sector ", sector);
+    }
+    held_by(sector, before, array, base, doubt);
+    if is_line {
+        text(b"\n");
+    }
+}
+
+// Those of a list, in its order.
+fn sectors(list: &[u32], before: &[u8], array: &[u8], base: u32, doubt: Spot, are_lines: bool) {
+    let mut i = 0;
+    while i < list.len() {
+        sector(list[i], before, array, base, doubt, are_lines);
+        i += 1;
     }
 }
 
 // ---- a run, and a line of `cut all`
 
+// `list` has the sectors of a list that the driver takes; of other calls it is empty.
 pub fn whole(
     case: Case,
     ended: Ended,
     seen: Shown,
+    list: &[u32],
     log: &[u32],
     buffer: &[u8],
     before: &[u8],
     array: &[u8],
 ) {
-    let shown = known(case.address, ended.erasing, seen);
+    let shown = known(ended.sector, ended.erasing, seen);
     let answer = ended.answer;
     accesses(front(log, ended.used));
     if ended.refused {
         refused(ended.used);
     } else {
-        end(case.cut, answer, ended.used / 2);
+        end(case.cut, answer, ended.place, ended.used / 2);
     }
     decimal(b"used log words ", ended.used);
     counted(b", replies ", ended.replies, b"\n");
-    chunks(case.call, ended.programmed, shown);
+    chunks(case.call, ended.counted, shown);
+    sectors(list, before, array, case.base, shown.doubt, true);
     value(case, ended, buffer);
     changes(before, array, case.base, shown.doubt);
 }
 
-fn chunks_in_line(call: usize, shown: Shown) {
+fn chunks_in_line(call: usize, count: usize, shown: Shown) {
     if programs(call) {
         decimal(b" finished ", shown.finished);
         decimal(b" bytes ", shown.bytes);
+    }
+    if call == calls::ERASE_SECTORS {
+        decimal(b" finished ", count);
     }
     if works(call) {
         in_doubt(b" doubt ", b" doubt -", shown.doubt);
     }
 }
 
-pub fn cut_line(case: Case, ended: Ended, seen: Shown, before: &[u8], array: &[u8]) {
-    let shown = known(case.address, ended.erasing, seen);
+pub fn cut_line(case: Case, ended: Ended, seen: Shown, list: &[u32], before: &[u8], array: &[u8]) {
+    let shown = known(ended.sector, ended.erasing, seen);
     decimal(b"", ended.used / 2);
-    chunks_in_line(case.call, shown);
+    chunks_in_line(case.call, ended.counted, shown);
     decimal(
         b" pages ",
         pages(before, array, case.base, shown.doubt, false),
     );
+    if 0 < list.len() {
+        text(b" sectors");
+    }
+    sectors(list, before, array, case.base, shown.doubt, false);
     text(b"\n");
 }

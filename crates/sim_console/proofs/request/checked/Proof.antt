@@ -16,20 +16,8 @@ abbrev μ-loop : tie.MeasureT-loop
 loop-holds : tie.Need-loop-holds Inv-loop μ-loop
 loop-holds c = search needs
 
-line-of-requires : tie.Need-line-of-requires Inv-loop μ-loop
-line-of-requires c κs = tt
-
-fitting-requires : tie.Need-fitting-requires Inv-loop μ-loop
-fitting-requires c κs = tt
-
-told-by-requires : tie.Need-told-by-requires Inv-loop μ-loop
-told-by-requires c κs = tt
-
-line-of-requires-2 : tie.Need-line-of-requires-2 Inv-loop μ-loop
-line-of-requires-2 c κs = tt
-
-stand-at-requires : tie.Need-stand-at-requires Inv-loop μ-loop
-stand-at-requires c κs = tt
+checked-item-requires : tie.Need-checked-item-requires Inv-loop μ-loop
+checked-item-requires c κs = tt
 
 same-length : tie.Need-same-length Inv-loop μ-loop
 same-length c = omega arith
@@ -46,6 +34,9 @@ loop-less c = omega arith
 loop-again : tie.Need-loop-again Inv-loop μ-loop
 loop-again c = search needs
 
+checked-item-requires-2 : tie.Need-checked-item-requires-2 Inv-loop μ-loop
+checked-item-requires-2 c κs = tt
+
 same-length-2 : tie.Need-same-length-2 Inv-loop μ-loop
 same-length-2 c = omega arith
 
@@ -59,15 +50,12 @@ checked-spec =
     Inv-loop
     μ-loop
     loop-holds
-    line-of-requires
-    fitting-requires
-    told-by-requires
-    line-of-requires-2
-    stand-at-requires
+    checked-item-requires
     same-length
     returns
     add-item
     loop-less
     loop-again
+    checked-item-requires-2
     same-length-2
     returns-2)
