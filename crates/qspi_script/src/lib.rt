@@ -350,10 +350,9 @@ fn first_word(job: Job, place: Place, data: &[u8]) -> u32
         Stage::WriteRegisters => words::write_registers_word(sr, cr),
         Stage::ReadId => words::command_only(RegisterId::ReadId),
         Stage::ReadLongId => words::command_only(RegisterId::ReadId),
-        Stage::Erase => words::command_word(
-            RegisterId::SectorErase,
-            sector_address(job, place, data),
-        ),
+        Stage::Erase => {
+            words::command_word(RegisterId::SectorErase, sector_address(job, place, data))
+        }
         Stage::Program => words::command_word(RegisterId::PageProgram, chunk_address(job, place)),
         Stage::Poll => words::command_only(RegisterId::ReadStatus1),
         Stage::Read => read_word(job, place),

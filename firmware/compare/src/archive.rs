@@ -2,7 +2,7 @@
 //! Each struct of the binding has its values in the order of its fields.
 
 use crate::case::Case;
-use qspi::{ClockConfig, Clocks, IdRan, LongIdRan, PagesRan, Preset, Ran, ValueRan};
+use qspi::{ClockConfig, Clocks, IdRan, LongIdRan, PagesRan, Preset, Ran, SectorsRan, ValueRan};
 use replay::call::{Call, ClockCodes, Ended, padded};
 
 fn ran(ran: Ran) -> Ended {
@@ -10,7 +10,11 @@ fn ran(ran: Ran) -> Ended {
 }
 
 fn pages(ran: PagesRan) -> Ended {
-    Ended { used: ran.used, replies: ran.replies, programmed: ran.programmed, ..Ended::at_once(ran.answer, &[]) }
+    Ended { used: ran.used, replies: ran.replies, counted: ran.programmed, ..Ended::at_once(ran.answer, &[]) }
+}
+
+fn sectors(ran: SectorsRan) -> Ended {
+    Ended { used: ran.used, replies: ran.replies, counted: ran.finished, ..Ended::at_once(ran.answer, &[ran.place]) }
 }
 
 fn value(ran: ValueRan) -> Ended {
@@ -34,7 +38,7 @@ fn long_id(ran: LongIdRan) -> Ended {
         ran.family_id,
         ran.model_number,
     ]);
-    Ended { answer: ran.answer, used: ran.used, replies: ran.replies, programmed: 0, values }
+    Ended { answer: ran.answer, used: ran.used, replies: ran.replies, counted: 0, values }
 }
 
 fn clock(config: ClockConfig) -> Ended {
@@ -85,6 +89,7 @@ pub(crate) fn call(case: &Case, buffer: &mut [u8], log: &mut [u32]) -> Ended {
         Call::WritePages { addr } => pages(qspi::write_pages(addr, data, r, log)),
         Call::ReadPageRead { addr } => ran(qspi::read_page_read(addr, buffer, r, log)),
         Call::ReadFastRead { addr, dummy_byte } => ran(qspi::read_fast_read(addr, dummy_byte, buffer, r, log)),
+        Call::EraseSectors => sectors(qspi::erase_sectors(&case.list, r, log)),
         Call::SetWriteProtection { protection } => ran(qspi::set_write_protection(protection, r, log)),
     }
 }

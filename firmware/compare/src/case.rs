@@ -8,6 +8,7 @@ use std::fmt::{Display, Formatter, Result};
 
 pub(crate) struct Case<'a> {
     pub call: Call,
+    pub list: Vec<u32>,
     pub data: &'a [u8],
     /// Bytes of the read buffer.
     pub buffer: usize,
@@ -20,10 +21,11 @@ pub(crate) struct Case<'a> {
 
 pub(crate) fn draw<'a>(rng: &mut Rng, slab: &'a [u8]) -> Case<'a> {
     let (call, length) = draw::call(rng);
+    let list = if call.takes_list() { draw::list(rng) } else { Vec::new() };
     let data = if call.takes_data() { part(rng, slab, length) } else { &[] };
     let buffer = if call.takes_buffer() { length } else { 0 };
-    let drawn = replies::draw(rng, call, data, buffer);
-    let mut case = Case { call, data, buffer, room: drawn.used, replies: drawn.replies, junk: rng.word() };
+    let drawn = replies::draw(rng, call, &list, data, buffer);
+    let mut case = Case { call, list, data, buffer, room: drawn.used, replies: drawn.replies, junk: rng.word() };
     match rng.below(8) {
         0 | 1 => case.replies.truncate(cut(rng, drawn.used / 2)),
         2 | 3 => case.room = cut(rng, drawn.used),
@@ -52,6 +54,7 @@ fn cut(rng: &mut Rng, end: usize) -> usize {
 impl Display for Case<'_> {
     fn fmt(&self, f: &mut Formatter<'_>) -> Result {
         writeln!(f, "kind: {}\ninputs: {:?}", self.call.name(), self.call)?;
+        writeln!(f, "list: {} sectors, {:06X?}", self.list.len(), self.list)?;
         writeln!(f, "data: {} bytes, first {:02X?}", self.data.len(), &self.data[..self.data.len().min(16)])?;
         writeln!(f, "buffer: {} bytes\nroom: {} words", self.buffer, self.room)?;
         write!(f, "replies: {}, {:08X?}", self.replies.len(), self.replies)

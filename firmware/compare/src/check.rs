@@ -33,8 +33,9 @@ impl Room {
         self.buffer.extend((0..case.buffer + BEHIND).map(|i| case.junk as u8 ^ i as u8));
     }
 
-    fn lent<'a>(&'a mut self, case: &Case<'a>) -> Lent<'a> {
-        Lent { data: case.data, buffer: &mut self.buffer[..case.buffer], log: &mut self.log[..case.room] }
+    fn lent<'a>(&'a mut self, case: &'a Case) -> Lent<'a> {
+        let (buffer, log) = (&mut self.buffer[..case.buffer], &mut self.log[..case.room]);
+        Lent { list: &case.list, data: case.data, buffer, log }
     }
 }
 

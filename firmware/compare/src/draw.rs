@@ -27,8 +27,9 @@ pub(crate) fn call(rng: &mut Rng) -> (Call, usize) {
         0..6 => (calculate(rng), 0),
         6..11 => (calculate_with_loopback(rng), 0),
         11..48 => (plain(rng), 0),
-        48..56 => (Call::EraseSector { addr: sector_address(rng) }, 0),
-        56..70 => {
+        48..54 => (Call::EraseSector { addr: sector_address(rng) }, 0),
+        54..60 => (Call::EraseSectors, 0),
+        60..70 => {
             let length = data_length(rng);
             (Call::Program { addr: address(rng, length) }, length)
         }
@@ -226,5 +227,34 @@ fn sector_address(rng: &mut Rng) -> u32 {
         5 => sector + (1 << rng.below(16)),
         6 => ARRAY_END - 2 * SECTOR,
         _ => sector,
+    }
+}
+
+/// Different sectors, of which some lists have entries that are refused, a repeated one, or more than a list may have.
+pub(crate) fn list(rng: &mut Rng) -> Vec<u32> {
+    let length = list_length(rng);
+    let (first, step) = (rng.below(255), rng.pick(&[1, 2, 7, 251]));
+    let mut list: Vec<u32> = (0..length).map(|at| ((first + at * step) % 255) as u32 * SECTOR).collect();
+    if !list.is_empty() && rng.chance(30) {
+        spoil(rng, &mut list);
+    }
+    list
+}
+
+/// 255 is as many as there are, 256 as many as a list may have.
+fn list_length(rng: &mut Rng) -> usize {
+    match rng.below(100) {
+        0..3 => rng.pick(&[254, 255, 256, 257, 258, 1000]),
+        3..10 => rng.below(60),
+        10..15 => 0,
+        _ => 1 + rng.below(6),
+    }
+}
+
+/// Puts a sector at another place again, or an address that may be refused.
+fn spoil(rng: &mut Rng, list: &mut [u32]) {
+    for _ in 0..1 + rng.below(3) {
+        let (at, from) = (rng.below(list.len()), rng.below(list.len()));
+        list[at] = if rng.flag() { list[from] } else { sector_address(rng) };
     }
 }

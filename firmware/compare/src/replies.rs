@@ -14,20 +14,21 @@ pub(crate) struct Drawn {
     pub used: usize,
 }
 
-pub(crate) fn draw(rng: &mut Rng, call: Call, data: &[u8], buffer: usize) -> Drawn {
+pub(crate) fn draw(rng: &mut Rng, call: Call, list: &[u32], data: &[u8], buffer: usize) -> Drawn {
     match rng.below(10) {
         0 | 1 => noise(rng),
-        2 => mixture(rng, call, data, buffer),
-        _ => live(rng, call, data, buffer),
+        2 => mixture(rng, call, list, data, buffer),
+        _ => live(rng, call, list, data, buffer),
     }
 }
 
 /// The driver steps on a model; a contradiction or a panic shows again when the case is checked.
-fn live(rng: &mut Rng, call: Call, data: &[u8], buffer: usize) -> Drawn {
+fn live(rng: &mut Rng, call: Call, list: &[u32], data: &[u8], buffer: usize) -> Drawn {
     let settings = settings(rng, call);
     let ends = settings.mode == Mode::Sound;
     // A device that never answers fills any log.
-    let room = if ends { 2 * (4000 + 4 * data.len().min(5000) + 4 * buffer) } else { rng.below(400) };
+    let lengths = 4 * data.len().min(5000) + 4 * buffer + 200 * list.len();
+    let room = if ends { 2 * (4000 + lengths) } else { rng.below(400) };
     let mut model = Model::new(settings);
     let mut bytes = vec![0; buffer];
     if let Call::ReadPageRead { addr } | Call::ReadFastRead { addr, .. } = call {
@@ -47,7 +48,7 @@ fn live(rng: &mut Rng, call: Call, data: &[u8], buffer: usize) -> Drawn {
         }
         Asked::Nothing | Asked::LentLengthChanged => Reply::Nothing,
     };
-    let lent = Lent { data, buffer: &mut bytes, log: &mut log };
+    let lent = Lent { list, data, buffer: &mut bytes, log: &mut log };
     let ended = caught(|| ways::stepped_by(call, lent, make)).and_then(Result::ok);
     Drawn { replies, used: ended.map_or(room, |ended| ended.used) }
 }
@@ -106,8 +107,8 @@ fn noise(rng: &mut Rng) -> Drawn {
 }
 
 /// Live replies, some of them changed: the run goes another way from there on.
-fn mixture(rng: &mut Rng, call: Call, data: &[u8], buffer: usize) -> Drawn {
-    let mut drawn = live(rng, call, data, buffer);
+fn mixture(rng: &mut Rng, call: Call, list: &[u32], data: &[u8], buffer: usize) -> Drawn {
+    let mut drawn = live(rng, call, list, data, buffer);
     for _ in 0..rng.below(4) {
         if drawn.replies.is_empty() {
             break;

@@ -1,13 +1,15 @@
 //! How many calls of each kind ended with which answer, and which answers are still missing.
-//! Where a kind's calls can end so, an answer after finished chunks and the fields of an id count by themselves.
+//! Where a kind's calls can end so, an answer after finished chunks or sectors, the place of a refused entry and the fields of
+//! an id count by themselves.
 
 use replay::call::{Call, Ended};
 use std::collections::BTreeMap;
 use std::fmt::{Display, Formatter, Result};
 
-/// Every answer that a kind can give: numbers of document 01. `+` is an answer of `write_pages` after a finished chunk,
-/// `i`, `d` and `s` are unknown codes of interface, density and sector architecture.
-const ANSWERS: [(&str, &str); 23] = [
+/// Every answer that a kind can give, by the papers' numbers. `+` is an answer of `write_pages` after a finished chunk or of a
+/// list after a finished sector, `@` one that names an entry behind the first; `i`, `d` and `s` are unknown codes of interface,
+/// density and sector architecture.
+const ANSWERS: [(&str, &str); 24] = [
     ("calculate", "0 6 7 8 12"),
     ("loopback", "0 6 8 9 12"),
     ("linear_config", "0 11"),
@@ -30,6 +32,7 @@ const ANSWERS: [(&str, &str); 23] = [
     ("write_pages", "0 0+ 1 4 4+ 5 5+ 22 22+ 23 23+ 24 24+"),
     ("read_page_read", "0 10 23 24"),
     ("read_fast_read", "0 10 23 24"),
+    ("erase_sectors", "0 0+ 1 1@ 2 2@ 21 21+ 23 23+ 24 24+ 32@ 33"),
     ("set_protection", "0 12 23 24"),
 ];
 
@@ -40,8 +43,11 @@ pub(crate) struct Tally {
 
 fn answer(call: Call, ended: &Ended) -> String {
     let mut answer = ended.answer.to_string();
-    if ended.programmed > 0 {
+    if ended.counted > 0 {
         answer.push('+');
+    }
+    if call.takes_list() && ended.values[0] > 0 {
+        answer.push('@');
     }
     let is_id = ended.answer == 0 && matches!(call, Call::ReadRdidBase | Call::ReadRdidExtended);
     for (place, field) in [(2, 'i'), (3, 'd'), (6, 's')] {

@@ -12,6 +12,7 @@ fn both_give_the_same_length() {
     for length in (0..3000).chain([65_535, 65_536, 16_777_212]) {
         let bytes = length as u64;
         for (call, accesses) in [
+            (Call::EraseSectors(length), room::erase_sectors_accesses(bytes) + FAILURE),
             (Call::Program(length), room::program_accesses(bytes) + FAILURE),
             (Call::WritePages(length), room::write_pages_accesses(bytes) + FAILURE),
             (Call::ReadPageRead(length), room::read_accesses(bytes, false)),

@@ -7,6 +7,8 @@ use verified::zedboard_bsp::qspi_spansion::device_id::BaseDeviceId;
 
 const SECTOR: u32 = 0x03_0000;
 const LAST_SECTOR: u32 = 0xFF_0000;
+/// Sectors that are erased by one call, the later one first.
+const LIST: [u32; 2] = [0x05_0000, 0x04_0000];
 const LONGEST: usize = 1024;
 const TOP: u32 = 0xFF_FF80;
 const TOP_LENGTH: usize = 124;
@@ -34,6 +36,14 @@ pub fn run(flash: &mut BoardFlash, buffer: &mut [u8]) {
     say!("a save that crosses a page ends before its second chunk");
     save(flash, SECTOR + 0x40, 256);
     page_read(flash, SECTOR + 0x40, &mut buffer[..128]);
+    say!("a list is tested before its first sector is erased");
+    save(flash, LIST[0], 128);
+    save(flash, LIST[1], 128);
+    erase_list(flash, &[LIST[0], LIST[1], LIST[0]]);
+    page_read(flash, LIST[0], &mut buffer[..128]);
+    erase_list(flash, &LIST);
+    page_read(flash, LIST[0], &mut buffer[..128]);
+    page_read(flash, LIST[1], &mut buffer[..128]);
     say!("the array's last byte is out of range, and so is its sector");
     erase(flash, LAST_SECTOR);
     save(flash, TOP, 128);
@@ -96,6 +106,15 @@ fn erase(flash: &mut BoardFlash, addr: u32) {
     say!("erase_sector {addr:06X}: {ended}, {} accesses", accesses(flash));
 }
 
+fn erase_list(flash: &mut BoardFlash, list: &[u32]) {
+    let ended = flash.erase_sectors(list);
+    let (length, accesses) = (list.len(), accesses(flash));
+    match ended {
+        Ok(finished) => say!("erase_sectors, {length} of them: done, {finished} finished, {accesses} accesses"),
+        Err(stopped) => say!("erase_sectors, {length} of them: {stopped}, {accesses} accesses"),
+    }
+}
+
 fn save(flash: &mut BoardFlash, addr: u32, length: usize) {
     let (error, programmed) = match flash.write_pages(addr, &DATA[..length]) {
         Ok(programmed) => (None, programmed),
@@ -121,5 +140,11 @@ fn fast_read(flash: &mut BoardFlash, addr: u32, found: &mut [u8]) {
 }
 
 fn kept(found: &[u8]) -> &'static str {
-    if found == &DATA[..found.len()] { "as saved" } else { "NOT as saved" }
+    if found == &DATA[..found.len()] {
+        "as saved"
+    } else if found.iter().all(|&byte| byte == 0xFF) {
+        "erased"
+    } else {
+        "NOT as saved"
+    }
 }

@@ -1,4 +1,4 @@
-//! Why a call was refused or stopped, by the numbers of the port's paper.
+//! Why a call was refused or stopped, by the numbers of the port's papers.
 
 use core::fmt;
 use verified::qspi_script::Status;
@@ -75,6 +75,10 @@ errors! {
     LogFull = 24, "the log is full";
     /// Never met: each step is lent what the start was told.
     LentLengthChanged = 25, "the lent memory has another length than at the start";
+    /// A list names a sector twice. No access was made.
+    RepeatedSector = 32, "the list names a sector twice";
+    /// A list of more than 256 sectors. No access was made.
+    ListTooLong = 33, "more than 256 sectors in a list";
 }
 
 impl fmt::Display for Error {
@@ -104,6 +108,33 @@ impl fmt::Display for WritePagesError {
 }
 
 impl core::error::Error for WritePagesError {
+    fn source(&self) -> Option<&(dyn core::error::Error + 'static)> {
+        Some(&self.error)
+    }
+}
+
+/// Why a list of erases was refused or stopped, and how far it came.
+#[derive(Clone, Copy, Debug, PartialEq, Eq)]
+pub struct EraseSectorsError {
+    /// Why it stopped.
+    pub error: Error,
+    /// Sectors that are finished: the first so many of the list are erased.
+    pub finished: usize,
+    /// The place in the list, from 0, of the entry that it is refused for: with [OutOfRange](Error::OutOfRange),
+    /// [Alignment](Error::Alignment) and [RepeatedSector](Error::RepeatedSector), and with no other error.
+    pub place: Option<usize>,
+}
+
+impl fmt::Display for EraseSectorsError {
+    fn fmt(&self, f: &mut fmt::Formatter<'_>) -> fmt::Result {
+        match self.place {
+            Some(place) => write!(f, "{}: entry {place} of the list", self.error),
+            None => write!(f, "{}; finished sectors: {}", self.error, self.finished),
+        }
+    }
+}
+
+impl core::error::Error for EraseSectorsError {
     fn source(&self) -> Option<&(dyn core::error::Error + 'static)> {
         Some(&self.error)
     }

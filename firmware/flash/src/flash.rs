@@ -1,9 +1,10 @@
 //! The flash chip: the calls of the driver as ordinary methods, under the Rust's names.
 
-use crate::{AS_IT_IS, Bus, Error, QspiLowLevel, WritePagesError};
+use crate::{AS_IT_IS, Bus, EraseSectorsError, Error, QspiLowLevel, WritePagesError};
 use core::ops::ControlFlow;
 use verified::qspi_calls::start::{self, Config};
 use verified::qspi_operation::Op;
+use verified::qspi_script::Gives;
 use verified::zedboard_bsp::qspi_spansion::device_id::{BaseDeviceId, ExtendedDeviceId};
 use verified::zedboard_bsp::qspi_spansion::{ConfigRegister1, StatusRegister1};
 
@@ -122,6 +123,21 @@ impl<'l, B: Bus> Flash<'l, B> {
         self.command(op)
     }
 
+    /// Erases the sectors of a list of up to 256 in its order, and waits for each. The whole list is tested before the first
+    /// access: refused, no sector is touched. Gives the finished sectors: all of them, or those before the error.
+    pub fn erase_sectors(&mut self, list: &[u32]) -> Result<usize, EraseSectorsError> {
+        let ended = self.check_idle().and_then(|()| self.low_level.erase_sectors(list));
+        let answer = self.low_level.answer();
+        match ended {
+            Ok(()) => Ok(answer.counted),
+            // Not begun: the answer at hand is an earlier call's.
+            Err(error @ (Error::ResetNeeded | Error::FlashBusy)) => {
+                Err(EraseSectorsError { error, finished: 0, place: None })
+            }
+            Err(error) => Err(EraseSectorsError { error, finished: answer.counted, place: place(answer.gives) }),
+        }
+    }
+
     /// Programs up to 240 bytes of one page, and waits until that is done.
     pub fn program(&mut self, addr: u32, data: &[u8]) -> Result<(), Error> {
         let op = start::program(addr, data.len(), self.low_level.room());
@@ -133,10 +149,10 @@ impl<'l, B: Bus> Flash<'l, B> {
     pub fn write_pages(&mut self, addr: u32, data: &[u8]) -> Result<usize, WritePagesError> {
         let op = start::write_pages(addr, data.len(), self.low_level.room());
         match self.call(op, data, &mut []) {
-            Ok(()) => Ok(self.low_level.answer().programmed),
+            Ok(()) => Ok(self.low_level.answer().counted),
             // Not begun: the answer at hand is an earlier call's.
             Err(error @ (Error::ResetNeeded | Error::FlashBusy)) => Err(WritePagesError { error, programmed: 0 }),
-            Err(error) => Err(WritePagesError { error, programmed: self.low_level.answer().programmed }),
+            Err(error) => Err(WritePagesError { error, programmed: self.low_level.answer().counted }),
         }
     }
 
@@ -154,11 +170,15 @@ impl<'l, B: Bus> Flash<'l, B> {
         self.call(op, &[], buf)
     }
 
+    /// Refuses what a flash at work would not obey.
+    fn check_idle(&self) -> Result<(), Error> {
+        let is_busy = self.low_level.flash_busy() && !self.low_level.needs_reset();
+        if is_busy { Err(Error::FlashBusy) } else { Ok(()) }
+    }
+
     /// A call that a flash at work would not obey.
     fn call(&mut self, op: Op, data: &[u8], buffer: &mut [u8]) -> Result<(), Error> {
-        if self.low_level.flash_busy() && !self.low_level.needs_reset() {
-            return Err(Error::FlashBusy);
-        }
+        self.check_idle()?;
         self.low_level.call(op, data, buffer)
     }
 
@@ -175,5 +195,13 @@ impl<'l, B: Bus> Flash<'l, B> {
     /// Gives the controller back.
     pub fn release(self) -> QspiLowLevel<'l, B> {
         self.low_level
+    }
+}
+
+/// The entry that a list is refused for, where it is.
+fn place(gives: Gives) -> Option<usize> {
+    match gives {
+        Gives::Place(at) => Some(at.into()),
+        _ => None,
     }
 }

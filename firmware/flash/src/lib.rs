@@ -15,7 +15,7 @@ mod patience;
 mod room;
 
 pub use bus::{Bus, Registers, Waiting};
-pub use error::{Error, WritePagesError};
+pub use error::{EraseSectorsError, Error, WritePagesError};
 pub use flash::Flash;
 pub use low_level::QspiLowLevel;
 pub use room::{Budget, Call, log_words};

@@ -114,13 +114,29 @@ impl<'l, B: Bus> QspiLowLevel<'l, B> {
         self.call(op, &[], &mut [])
     }
 
-    /// A call from its start to its end. Each turn makes one access or ends the call, and the log has an end: so has this.
+    /// A call from its start to its end.
     pub(crate) fn call(&mut self, op: Op, data: &[u8], buffer: &mut [u8]) -> Result<(), Error> {
-        if self.needs_reset() {
-            return Err(Error::ResetNeeded);
-        }
+        self.check_at_rest()?;
+        let begun = self.driver.start(op);
+        self.finish(begun, data, buffer)
+    }
+
+    /// The call of a list of sectors. The driver copies the list, and each step is lent the copy.
+    pub(crate) fn erase_sectors(&mut self, list: &[u32]) -> Result<(), Error> {
+        self.check_at_rest()?;
+        let begun = self.driver.erase_sectors(list, self.log.len());
+        self.finish(begun, &[], &mut [])
+    }
+
+    /// Refuses what would go out behind the words of an open transfer.
+    fn check_at_rest(&self) -> Result<(), Error> {
+        if self.needs_reset() { Err(Error::ResetNeeded) } else { Ok(()) }
+    }
+
+    /// A call that has begun, to its end. Each turn makes one access or ends the call, and the log has an end: so has this.
+    fn finish(&mut self, begun: Answer, data: &[u8], buffer: &mut [u8]) -> Result<(), Error> {
         let mut patience = Patience::new(self.budget);
-        let mut answer = self.driver.start(op);
+        let mut answer = begun;
         while state::is_under_way(answer) {
             let (stage, phase, used) = (self.stage(), self.phase(), self.driver.state.op.used);
             let reply = self.access(data, &mut patience);
@@ -199,8 +215,8 @@ impl<'l, B: Bus> QspiLowLevel<'l, B> {
                 }
                 Error::of(status).map_or(Ok(()), Err)
             }
-            // `call` has looked: nothing is under way as it starts.
-            Answer::Busy => Err(Error::ResetNeeded),
+            // Never met: nothing is under way as a call starts, and a list comes with its start.
+            Answer::Busy | Answer::ListMissing => Err(Error::ResetNeeded),
         }
     }
 

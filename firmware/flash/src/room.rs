@@ -17,6 +17,8 @@ macro_rules! calls {
         #[derive(Clone, Copy, Debug, PartialEq, Eq)]
         pub enum Call {
             $(#[doc = concat!("`", $method, "`.")] $call,)*
+            /// `erase_sectors` of so many.
+            EraseSectors(usize),
             /// `program` of so many bytes.
             Program(usize),
             /// `write_pages` of so many bytes.
@@ -50,6 +52,8 @@ calls! {
 
 /// A transfer of one word: four accesses to open it, the word, two to start it, a look, the reply, three to close it.
 const ONE_WORD: u64 = 12;
+/// Write enable, the command, the first status read.
+const ERASE: u64 = 3 * ONE_WORD;
 /// Clear status and write disable, after the flash has reported an error.
 const FAILURE: u64 = 2 * ONE_WORD;
 /// Bytes of a chunk of `write_pages`.
@@ -76,7 +80,8 @@ impl Call {
             | Call::ReadRdidBase => ONE_WORD,
             // Two words and two replies more.
             Call::ReadRdidExtended => ONE_WORD + 6,
-            Call::EraseSector => 3 * ONE_WORD + FAILURE,
+            Call::EraseSector => ERASE + FAILURE,
+            Call::EraseSectors(count) => (count as u64).saturating_mul(ERASE).saturating_add(FAILURE),
             Call::Program(length) => program(length as u64).saturating_add(FAILURE),
             Call::WritePages(length) => write_pages(length as u64).saturating_add(FAILURE),
             Call::ReadPageRead(length) => read(length as u64, false),

@@ -47,7 +47,7 @@ fn each_method_makes_the_call_of_its_name() {
         let seen = &controller.bus().seen;
         let (mut buffer, mut expected) = (vec![0; row.buffer], vec![0; 20_000]);
         let op = (row.op)(expected.len());
-        let ran = qspi_operation::run(op, &data(row.data), &mut buffer, &mut expected, &replies(seen));
+        let ran = qspi_operation::run(op, &(row.data)(), &mut buffer, &mut expected, &replies(seen));
         assert_eq!((ended, ran.answer), (Ok(()), Status::Done), "{:?}", row.call);
         assert_eq!(expected[..ran.op.used], *seen, "{:?}", row.call);
     }
@@ -88,7 +88,7 @@ fn the_length_of_a_log_is_what_a_prompt_device_takes() {
         let (controller, _) =
             (row.make)(flash(Model::new(Settings { status: 0x1C, ..Settings::default() }), &mut log, AMPLE));
         let error = match row.call {
-            Call::EraseSector | Call::Program(_) | Call::WritePages(_) => 48,
+            Call::EraseSector | Call::EraseSectors(_) | Call::Program(_) | Call::WritePages(_) => 48,
             _ => 0,
         };
         assert_eq!(controller.log().len() + error, log_words(row.call, NOTHING_TO_SPARE), "{:?}", row.call);
@@ -490,6 +490,8 @@ fn errors_say_what_and_by_which_number() {
         (Error::RepliesEnded, 23),
         (Error::LogFull, 24),
         (Error::LentLengthChanged, 25),
+        (Error::RepeatedSector, 32),
+        (Error::ListTooLong, 33),
     ];
     for (error, number) in numbered {
         assert_eq!(error.number(), Some(number));

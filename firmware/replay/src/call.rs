@@ -7,7 +7,7 @@ use verified::qspi_operation::Op;
 use verified::qspi_script::{Gives, Lent};
 use verified::zynq7000_hal::clocks::Clocks;
 
-/// A call. Data and read buffer are lent beside it; one that takes none is lent an empty one.
+/// A call. List, data and read buffer are lent beside it; one that takes none is lent an empty one.
 #[derive(Clone, Copy, Debug, PartialEq, Eq)]
 pub enum Call {
     Calculate { src_sel: u8, clocks: Clocks, target_qspi_ref_clock: u32, target_qspi_interface_clock: u32 },
@@ -32,6 +32,7 @@ pub enum Call {
     WritePages { addr: u32 },
     ReadPageRead { addr: u32 },
     ReadFastRead { addr: u32, dummy_byte: bool },
+    EraseSectors,
     SetWriteProtection { protection: u8 },
 }
 
@@ -47,21 +48,21 @@ pub struct ClockCodes {
 /// The most values that a call gives.
 pub const MOST_VALUES: usize = 9;
 
-/// How a call ended: the answer's number, the used counts and the bytes programmed, and its values in the order of the
-/// export's struct.
+/// How a call ended: the answer's number, the used counts, the bytes programmed or the sectors finished, and its values in the
+/// order of the export's struct.
 #[derive(Clone, Copy, Debug, PartialEq, Eq)]
 pub struct Ended {
     pub answer: u32,
     pub used: usize,
     pub replies: usize,
-    pub programmed: usize,
+    pub counted: usize,
     pub values: [u32; MOST_VALUES],
 }
 
 impl Ended {
     /// The end of a call that made no access.
     pub fn at_once(answer: u32, values: &[u32]) -> Ended {
-        Ended { answer, used: 0, replies: 0, programmed: 0, values: padded(values) }
+        Ended { answer, used: 0, replies: 0, counted: 0, values: padded(values) }
     }
 }
 
@@ -104,9 +105,14 @@ impl Call {
             Call::WritePages { .. } => "write_pages",
             Call::ReadPageRead { .. } => "read_page_read",
             Call::ReadFastRead { .. } => "read_fast_read",
+            Call::EraseSectors => "erase_sectors",
             // Not in the list: the published Rust panics.
             Call::SetWriteProtection { .. } => "set_protection",
         }
+    }
+
+    pub fn takes_list(self) -> bool {
+        self == Call::EraseSectors
     }
 
     pub fn takes_data(self) -> bool {
@@ -122,25 +128,27 @@ impl Call {
         match self {
             Call::Calculate { .. } | Call::CalculateWithLoopback { .. } | Call::ReadRdidBase => 4,
             Call::LinearModeConfig { .. } | Call::Initialize { .. } => 1,
-            Call::ReadStatusRegister1 | Call::ReadConfigurationRegister => 1,
+            Call::ReadStatusRegister1 | Call::ReadConfigurationRegister | Call::EraseSectors => 1,
             Call::ReadRdidExtended => MOST_VALUES,
             _ => 0,
         }
     }
 
-    /// What the erased package says that the call gives, once it is done.
+    /// What the erased package says that the call gives, once it is done. A list of sectors gives a place, this one or another,
+    /// where it is refused for an entry.
     pub fn gives(self) -> Gives {
         match self {
             Call::Initialize { .. } => Gives::Clock,
             Call::ReadStatusRegister1 | Call::ReadConfigurationRegister => Gives::Register,
             Call::ReadRdidBase => Gives::Id,
             Call::ReadRdidExtended => Gives::LongId,
+            Call::EraseSectors => Gives::Place(0),
             _ => Gives::Nothing,
         }
     }
 
-    /// The call as the erased package begins it, where memory of these lengths is lent.
-    pub fn start(self, lent: Lent) -> Start {
+    /// The call as the erased package begins it, where this list and memory of these lengths is lent.
+    pub fn start(self, list: &[u32], lent: Lent) -> Start {
         let log = lent.log;
         Start::Operation(match self {
             Call::Calculate { src_sel, clocks, target_qspi_ref_clock: target, target_qspi_interface_clock } => {
@@ -174,6 +182,7 @@ impl Call {
             Call::WritePages { addr } => start::write_pages(addr, lent.data, log),
             Call::ReadPageRead { addr } => start::read_page_read(addr, lent.buffer, log),
             Call::ReadFastRead { addr, dummy_byte } => start::read_fast_read(addr, dummy_byte, lent.buffer, log),
+            Call::EraseSectors => start::erase_sectors(list, log),
             Call::SetWriteProtection { protection } => start::set_write_protection(protection, log),
         })
     }

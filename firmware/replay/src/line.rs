@@ -14,7 +14,7 @@ fn digest<T: Copy + Into<u64>>(numbers: &[T]) -> u64 {
 }
 
 pub(crate) fn ended(out: &mut impl Write, at: usize, call: Call, ended: &Ended, log: &[u32], buffer: &[u8]) -> Result {
-    write!(out, "{at} {:<14} {} {} {} {}", call.name(), ended.answer, ended.used, ended.replies, ended.programmed)?;
+    write!(out, "{at} {:<14} {} {} {} {}", call.name(), ended.answer, ended.used, ended.replies, ended.counted)?;
     write!(out, " {:010x} {:010x}", digest(log), digest(buffer))?;
     // The codes of an id that was not read are no values.
     let is_unread = ended.answer != 0 && matches!(call, Call::ReadRdidBase | Call::ReadRdidExtended);

@@ -3,7 +3,7 @@
 
 use crate::call::{Call, Ended};
 use crate::line;
-use crate::record::{HEADER, MOST_DATA, MOST_LOG, MOST_REPLIES, Record, pair_at, word_at};
+use crate::record::{HEADER, MOST_DATA, MOST_LISTED, MOST_LOG, MOST_REPLIES, Record, pair_at, word_at};
 use crate::ways::{self, Apart, Lent};
 use core::fmt::{self, Write};
 
@@ -25,6 +25,7 @@ pub struct Memory {
     /// The dictionary of the replies.
     words: [u32; MOST_WORDS],
     replies: [u32; MOST_REPLIES],
+    list: [u32; MOST_LISTED],
     data: [u8; MOST_DATA],
     run: Room,
     stepped: Room,
@@ -42,9 +43,10 @@ impl Room {
     }
 
     /// As much as the record says.
-    fn lent<'a>(&'a mut self, record: &Record, call: Call, data: &'a [u8]) -> Lent<'a> {
+    fn lent<'a>(&'a mut self, record: &Record, call: Call, list: &'a [u32], data: &'a [u8]) -> Lent<'a> {
         let length = record.length.min(MOST_DATA);
         Lent {
+            list: if call.takes_list() { &list[..length] } else { &[] },
             data: if call.takes_data() { &data[..length] } else { &[] },
             buffer: if call.takes_buffer() { &mut self.buffer[..length] } else { &mut [] },
             log: &mut self.log[..record.room.min(MOST_LOG)],
@@ -63,6 +65,7 @@ impl Memory {
         Memory {
             words: [0; MOST_WORDS],
             replies: [0; MOST_REPLIES],
+            list: [0; MOST_LISTED],
             data: [0; MOST_DATA],
             run: Room::new(),
             stepped: Room::new(),
@@ -80,15 +83,20 @@ impl Memory {
         self.driven.refill();
     }
 
-    /// Takes the replies over, if they are replies.
-    fn take_replies(&mut self, body: &[u8], words: usize) -> Option<()> {
-        if MOST_REPLIES < body.len() {
+    /// Takes over the list of the body and the replies behind it, and gives how many these are; none where the list is past
+    /// the body, there are too many replies, or one is none.
+    fn take_body(&mut self, record: &Record, body: &[u8], words: usize) -> Option<usize> {
+        let (list, places) = body.split_at_checked(4 * record.listed())?;
+        if MOST_REPLIES < places.len() {
             return None;
         }
-        for (reply, place) in self.replies.iter_mut().zip(body) {
+        for (entry, bytes) in self.list.iter_mut().zip(list.chunks_exact(4)) {
+            *entry = word_at(bytes, 0);
+        }
+        for (reply, place) in self.replies.iter_mut().zip(places) {
             *reply = *self.words[..words].get(usize::from(*place))?;
         }
-        Some(())
+        Some(places.len())
     }
 }
 
@@ -124,7 +132,7 @@ fn next_record(rest: &[u8]) -> Option<(Record, &[u8], &[u8])> {
     record.is_within().then_some((record, body, after))
 }
 
-/// Makes the call and writes its line; false where there are too many replies or one is past the dictionary.
+/// Makes the call and writes its line; false where the body is no list and replies.
 fn case(
     record: &Record,
     body: &[u8],
@@ -135,11 +143,11 @@ fn case(
 ) -> Result<bool, fmt::Error> {
     let call = record.call(body);
     let is_clock_call = record.kind < 2;
-    if !is_clock_call && memory.take_replies(body, words).is_none() {
+    let taken = if is_clock_call { Some(0) } else { memory.take_body(record, body, words) };
+    let Some(replies) = taken else {
         return Ok(false);
-    }
+    };
     memory.refill(record.first);
-    let replies = if is_clock_call { 0 } else { body.len() };
     match all_ways(record, call, replies, memory) {
         Ok(ended) => line::ended(out, number, call, &ended, &memory.run.log, &memory.run.buffer)?,
         Err(what) => line::parted(out, number, call, what)?,
@@ -149,13 +157,14 @@ fn case(
 
 /// What all ways answer, or what they part in.
 fn all_ways(record: &Record, call: Call, replies: usize, memory: &mut Memory) -> Result<Ended, &'static str> {
-    let Memory { replies: words, data, run, stepped, driven, .. } = memory;
+    let Memory { replies: words, list, data, run, stepped, driven, .. } = memory;
     let replies = &words[..replies];
-    let ran = ways::run(call, replies, run.lent(record, call, data));
-    if ways::driven(call, replies, driven.lent(record, call, data)) != ran || driven != run {
+    let ran = ways::run(call, replies, run.lent(record, call, list, data));
+    if ways::driven(call, replies, driven.lent(record, call, list, data)) != ran || driven != run {
         return Err("run and driver end otherwise");
     }
-    match ways::stepped(call, replies, stepped.lent(record, call, data)) {
+    match ways::stepped(call, replies, stepped.lent(record, call, list, data)) {
+        Err(Apart::List) => Err("a start takes a list of sectors without the list"),
         Err(Apart::Lengths) => Err("a step takes other lengths than the start"),
         Err(Apart::Due) => Err("a step makes another access than was due"),
         Err(Apart::Counts) => Err("a step counts another access than was due"),

@@ -9,8 +9,11 @@ pub(crate) const HEADER: usize = 14;
 pub(crate) const MOST_DATA: usize = 768;
 pub(crate) const MOST_LOG: usize = 4096;
 pub(crate) const MOST_REPLIES: usize = 1024;
+/// As many as data bytes: a record has one length.
+pub(crate) const MOST_LISTED: usize = MOST_DATA;
 
-const LAST_KIND: u8 = 21;
+/// The kind with a list of sectors, the last one.
+const SECTORS: u8 = 22;
 
 pub(crate) struct Record {
     pub kind: u8,
@@ -54,8 +57,13 @@ impl Record {
         match self.kind {
             0 => self.body == 24,
             1 => self.body == 20,
-            kind => kind <= LAST_KIND && self.length <= MOST_DATA && self.room <= MOST_LOG,
+            kind => kind <= SECTORS && self.length <= MOST_DATA && self.room <= MOST_LOG,
         }
+    }
+
+    /// Entries of the list that stands before the replies: one kind has one.
+    pub fn listed(&self) -> usize {
+        if self.kind == SECTORS { self.length } else { 0 }
     }
 
     fn flag(&self, bit: u8) -> bool {
@@ -87,7 +95,8 @@ impl Record {
             18 => Call::Program { addr: word },
             19 => Call::WritePages { addr: word },
             20 => Call::ReadPageRead { addr: word },
-            _ => Call::ReadFastRead { addr: word, dummy_byte: self.flag(1) },
+            21 => Call::ReadFastRead { addr: word, dummy_byte: self.flag(1) },
+            _ => Call::EraseSectors,
         }
     }
 

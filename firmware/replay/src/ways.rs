@@ -6,14 +6,16 @@ use crate::call::{Call, Ended, MOST_VALUES, Start, padded};
 use crate::codes;
 use verified::power_cut::{self, PagesRan};
 use verified::qspi_calls::run::{command, kept, value};
+use verified::qspi_calls::sectors;
 use verified::qspi_driver::state::{Answer, Progress, is_under_way};
 use verified::qspi_driver::{self, QspiSpansionS25Fl256SIoMode};
-use verified::qspi_operation::{self, Asked, Reply, Stepped};
+use verified::qspi_operation::{self, Asked, Op, Reply, Stepped};
 use verified::qspi_script::{self, Gives, Status};
 use verified::zedboard_bsp::qspi_spansion::device_id::{BaseDeviceId, ExtendedDeviceId};
 
 /// What a call is lent beside its replies.
 pub struct Lent<'a> {
+    pub list: &'a [u32],
     pub data: &'a [u8],
     pub buffer: &'a mut [u8],
     pub log: &'a mut [u32],
@@ -28,6 +30,8 @@ impl Lent<'_> {
 /// What the stepped driver contradicts itself in.
 #[derive(Clone, Copy, Debug, PartialEq, Eq)]
 pub enum Apart {
+    /// A list of sectors is begun without the list, or the refusal changes something.
+    List,
     /// Other lengths than at the start are not refused by 25, or the refusal changes something.
     Lengths,
     /// The log words of a step are not the access that was shown as due.
@@ -49,12 +53,17 @@ fn number(status: Status) -> u32 {
 
 /// The call as one run over the replies.
 pub fn run(call: Call, replies: &[u32], lent: Lent) -> Ended {
-    let op = match call.start(lent.lengths()) {
+    let op = match call.start(lent.list, lent.lengths()) {
         Start::Answered(ended) => return ended,
         Start::Operation(op) => op,
     };
     if let Call::WritePages { addr } = call {
         return pages_end(power_cut::write_pages(addr, lent.data, replies, lent.log));
+    }
+    if call.takes_list() {
+        let numbers = sectors::numbered(lent.list);
+        let length = lent.list.len().min(numbers.len());
+        return run_end(call, qspi_operation::run(op, &numbers[..length], &mut [], lent.log, replies));
     }
     if call.takes_data() || call.takes_buffer() {
         return run_end(call, qspi_operation::run(op, lent.data, lent.buffer, lent.log, replies));
@@ -68,7 +77,7 @@ fn pages_end(pages: PagesRan) -> Ended {
         answer: number(ran.answer),
         used: ran.used,
         replies: ran.replies,
-        programmed: pages.programmed,
+        counted: pages.programmed,
         values: padded(&[]),
     }
 }
@@ -78,7 +87,7 @@ fn run_end(call: Call, s: Stepped) -> Ended {
         answer: number(s.answer),
         used: s.op.used,
         replies: s.op.replies,
-        programmed: qspi_operation::programmed(s.op),
+        counted: qspi_operation::counted(s.op),
         values: run_values(call, s),
     }
 }
@@ -92,19 +101,20 @@ fn run_values(call: Call, s: Stepped) -> [u32; MOST_VALUES] {
             let (older, old) = (kept(answer, wire.older), kept(answer, wire.old));
             codes::long_id_values(ExtendedDeviceId::from_replies(older, old, last))
         }
-        Gives::Register | Gives::Clock | Gives::Nothing => padded(&[value(s)]),
+        Gives::Register | Gives::Clock | Gives::Place(_) | Gives::Nothing => padded(&[value(s)]),
     }
 }
 
 /// The call as the driver's own loop makes it.
 pub fn driven(call: Call, replies: &[u32], lent: Lent) -> Ended {
-    let op = match call.start(lent.lengths()) {
+    let op = match call.start(lent.list, lent.lengths()) {
         Start::Answered(ended) => return ended,
         Start::Operation(op) => op,
     };
     let idle = QspiSpansionS25Fl256SIoMode::idle();
     let driven = match call {
         Call::WritePages { addr } => qspi_driver::write_pages(idle, addr, lent.data, replies, lent.log),
+        Call::EraseSectors => qspi_driver::erase_sectors(idle, lent.list, replies, lent.log),
         _ => qspi_driver::drive(idle, op, lent.data, lent.buffer, lent.log, replies),
     };
     let progress = driven.driver.answer();
@@ -123,12 +133,12 @@ pub fn stepped(call: Call, replies: &[u32], lent: Lent) -> Result<Ended, Apart> 
 
 /// The call stepped to its end. `make` is shown each access for which the log has room, and gives the reply to a read.
 pub fn stepped_by(call: Call, mut lent: Lent, mut make: impl FnMut(Asked) -> Reply) -> Result<Ended, Apart> {
-    let op = match call.start(lent.lengths()) {
+    let op = match call.start(lent.list, lent.lengths()) {
         Start::Answered(ended) => return Ok(ended),
         Start::Operation(op) => op,
     };
     let mut driver = QspiSpansionS25Fl256SIoMode::idle();
-    let mut answer = driver.start(op);
+    let mut answer = begun(&mut driver, call, op, &lent)?;
     if is_under_way(answer) && !refuses_other_lengths(driver, &mut lent) {
         return Err(Apart::Lengths);
     }
@@ -140,10 +150,23 @@ pub fn stepped_by(call: Call, mut lent: Lent, mut make: impl FnMut(Asked) -> Rep
     if gives_in_time(call, progress) { Ok(step_end(call, progress)) } else { Err(Apart::Gives) }
 }
 
+/// The driver's start. An operation of a list it takes only with the list.
+fn begun(driver: &mut QspiSpansionS25Fl256SIoMode, call: Call, op: Op, lent: &Lent) -> Result<Answer, Apart> {
+    let before = *driver;
+    let answer = driver.start(op);
+    if !call.takes_list() {
+        return Ok(answer);
+    }
+    if answer != Answer::ListMissing || *driver != before {
+        return Err(Apart::List);
+    }
+    Ok(driver.erase_sectors(lent.list, lent.log.len()))
+}
+
 /// Whether a step that is lent another length than the start answers 25, and the driver stays as it was.
 fn refuses_other_lengths(mut driver: QspiSpansionS25Fl256SIoMode, lent: &mut Lent) -> bool {
     let (before, refusal, reply) = (driver, Answer::Given(Status::LentLengthChanged), Reply::Word(0));
-    let Lent { data, buffer, log } = lent;
+    let Lent { data, buffer, log, .. } = lent;
     let other_data = data.get(1..).unwrap_or(&[0]);
     let mut is_refused = driver.due(other_data) == Asked::LentLengthChanged;
     is_refused &= driver.step(other_data, buffer, log, reply) == refusal;
@@ -199,7 +222,7 @@ fn step_end(call: Call, progress: Progress) -> Ended {
         answer: number(progress.status),
         used: progress.used,
         replies: progress.replies,
-        programmed: progress.programmed,
+        counted: progress.counted,
         values: step_values(call, progress),
     }
 }
@@ -209,13 +232,20 @@ fn step_values(call: Call, progress: Progress) -> [u32; MOST_VALUES] {
         Gives::Register => padded(&[progress.register().into()]),
         Gives::Id => padded(&codes::id_values(progress.base_device_id())),
         Gives::LongId => codes::long_id_values(progress.extended_device_id()),
+        Gives::Place(_) => padded(&[progress.place().into()]),
         // 0 but for an `initialize` that is done.
         Gives::Clock | Gives::Nothing => padded(&[progress.lqspi_clk_ctrl()]),
     }
 }
 
-/// Only a call that is done gives something.
+/// Only a call that is done gives something, and a list that is refused for an entry.
 fn gives_in_time(call: Call, progress: Progress) -> bool {
-    let is_done = progress.status == Status::Done;
-    progress.gives == if is_done { call.gives() } else { Gives::Nothing }
+    match (call.gives(), progress.status) {
+        (Gives::Place(_), Status::OutOfRange | Status::Alignment | Status::RepeatedSector) => {
+            matches!(progress.gives, Gives::Place(_))
+        }
+        (Gives::Place(_), _) => progress.gives == Gives::Nothing,
+        (gives, Status::Done) => progress.gives == gives,
+        _ => progress.gives == Gives::Nothing,
+    }
 }

@@ -1,10 +1,11 @@
 // Made by tools/erase from crates/qspi_driver/src/lib.rt; a change belongs there.
 //! The outer layer: one small driver state, lent by `&mut` to each start and step and updated. A method
-//! takes it apart and calls the covered function of `state`; `drive` runs a whole call through the methods.
+//! takes it apart and calls the covered function of `state`; `drive` runs a whole call through `step`.
 
 use crate::qspi_calls::start;
 use crate::qspi_driver::state::Answer;
 use crate::qspi_driver::state::Progress;
+use crate::qspi_driver::state::SectorList;
 use crate::qspi_driver::state::State;
 use crate::qspi_operation::Asked;
 use crate::qspi_operation::Op;
@@ -16,6 +17,7 @@ pub mod state;
 #[derive(Clone, Copy, Debug, PartialEq, Eq)]
 pub struct QspiSpansionS25Fl256SIoMode {
     pub state: State,
+    pub list: SectorList,
 }
 
 impl QspiSpansionS25Fl256SIoMode {
@@ -23,11 +25,13 @@ impl QspiSpansionS25Fl256SIoMode {
     pub fn idle() -> QspiSpansionS25Fl256SIoMode {
         let op = start::read_page_read(0, 0, 0);
         let state = State { op };
-        QspiSpansionS25Fl256SIoMode { state }
+        let numbers = [0u8; 256];
+        let list = SectorList { numbers };
+        QspiSpansionS25Fl256SIoMode { state, list }
     }
 
     // Begins a call: `op` is what a function of `qspi_calls::start` gave. While the operation at hand has
-    // not ended the answer is `Busy`, and nothing is changed.
+    // not ended the answer is `Busy`, and of a list of sectors it is `ListMissing`: nothing is changed.
     pub fn start(&mut self, op: Op) -> Answer {
         let state = self.state;
         let s = state::begin(state, op);
@@ -35,10 +39,21 @@ impl QspiSpansionS25Fl256SIoMode {
         s.answer
     }
 
+    // Begins the erase of a list of sectors, whose numbers are kept beside the operation: no step is lent
+    // the list again. While the operation at hand has not ended the answer is `Busy`, and nothing is changed.
+    pub fn erase_sectors(&mut self, list: &[u32], log: usize) -> Answer {
+        let state = self.state;
+        let kept = self.list;
+        let s = state::begin_list(state, kept, list, log);
+        self.state = s.state;
+        self.list = s.list;
+        s.answer
+    }
+
     // The access that is due, without effect.
     pub fn due(&self, data: &[u8]) -> Asked {
         let state = self.state;
-        state::due(state, data)
+        state::due(state, &self.list.numbers, data)
     }
 
     // The answer so far.
@@ -48,7 +63,8 @@ impl QspiSpansionS25Fl256SIoMode {
     }
 
     // A step of the operation at hand: it makes and logs one access, or answers 23, 24 or 25, or repeats the
-    // answer of one that has ended. A call without data or without a read buffer is lent an empty one.
+    // answer of one that has ended. A call without data or without a read buffer is lent an empty one; a list
+    // of sectors is lent the driver's own copy, and with data beside it the answer is 25.
     pub fn step(
         &mut self,
         data: &[u8],
@@ -57,7 +73,7 @@ impl QspiSpansionS25Fl256SIoMode {
         reply: Reply,
     ) -> Answer {
         let state = self.state;
-        let s = state::step(state, data, buffer, log, reply);
+        let s = state::step(state, &self.list.numbers, data, buffer, log, reply);
         self.state = s.state;
         s.answer
     }
@@ -70,18 +86,18 @@ pub struct Driven {
     pub answer: Answer,
 }
 
-// A whole call through the methods: `op` is started and stepped to its end, the replies in order. A caller
-// that has the driver by value needs no proof by hand.
-pub fn drive(
+// The rest of a call that answered `answer` so far, through the lent driver: it is stepped to its end, the
+// replies in order.
+fn finish(
     driver: QspiSpansionS25Fl256SIoMode,
-    op: Op,
+    begun: Answer,
     data: &[u8],
     buffer: &mut [u8],
     log: &mut [u32],
     replies: &[u32],
 ) -> Driven {
     let mut lent = driver;
-    let mut answer = lent.start(op);
+    let mut answer = begun;
     while state::is_under_way(answer) {
         let reply = state::next_reply(lent.state, replies);
         answer = lent.step(data, buffer, log, reply);
@@ -92,7 +108,26 @@ pub fn drive(
     }
 }
 
-// A save through the methods. Its contract states what a power cut can leave in the flash.
+// A whole call: `op` is begun and stepped to its end through the lent driver, the replies in order. A caller
+// that has the driver by value needs no proof by hand.
+pub fn drive(
+    driver: QspiSpansionS25Fl256SIoMode,
+    op: Op,
+    data: &[u8],
+    buffer: &mut [u8],
+    log: &mut [u32],
+    replies: &[u32],
+) -> Driven {
+    let state = driver.state;
+    let list = driver.list;
+    let acted = state::begin(state, op);
+    let next = acted.state;
+    let answer = acted.answer;
+    let begun = QspiSpansionS25Fl256SIoMode { state: next, list };
+    finish(begun, answer, data, buffer, log, replies)
+}
+
+// A save through the lent driver. Its contract states what a power cut can leave in the flash.
 pub fn write_pages(
     driver: QspiSpansionS25Fl256SIoMode,
     addr: u32,
@@ -103,4 +138,26 @@ pub fn write_pages(
     let op = start::write_pages(addr, data.len(), log.len());
     let mut buffer = [0u8; 0];
     drive(driver, op, data, &mut buffer, log, replies)
+}
+
+// A list of sectors, erased from the first to the last through the lent driver. The driver keeps the list.
+pub fn erase_sectors(
+    driver: QspiSpansionS25Fl256SIoMode,
+    list: &[u32],
+    replies: &[u32],
+    log: &mut [u32],
+) -> Driven {
+    let state = driver.state;
+    let kept = driver.list;
+    let acted = state::begin_list(state, kept, list, log.len());
+    let next = acted.state;
+    let copied = acted.list;
+    let answer = acted.answer;
+    let begun = QspiSpansionS25Fl256SIoMode {
+        state: next,
+        list: copied,
+    };
+    let data = [0u8; 0];
+    let mut buffer = [0u8; 0];
+    finish(begun, answer, &data, &mut buffer, log, replies)
 }

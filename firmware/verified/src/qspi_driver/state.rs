@@ -3,6 +3,8 @@
 //! take it apart and call these.
 
 use crate::qspi_calls::run;
+use crate::qspi_calls::sectors;
+use crate::qspi_calls::start;
 use crate::qspi_operation;
 use crate::qspi_operation::Asked;
 use crate::qspi_operation::Op;
@@ -21,6 +23,12 @@ pub struct State {
     pub op: Op,
 }
 
+// The list of sectors as it was lent at the start of `erase_sectors`, a byte a sector: its number.
+#[derive(Clone, Copy, Debug, PartialEq, Eq)]
+pub struct SectorList {
+    pub numbers: [u8; 256],
+}
+
 // What a start or a step answers.
 #[derive(Clone, Copy, Debug, PartialEq, Eq)]
 pub enum Answer {
@@ -28,6 +36,8 @@ pub enum Answer {
     Given(Status),
     // A start while the operation at hand has not ended: nothing is changed.
     Busy,
+    // A start of a list of sectors without its list: nothing is changed; `erase_sectors` begins one.
+    ListMissing,
 }
 
 impl Answer {
@@ -36,6 +46,7 @@ impl Answer {
         match self {
             Answer::Given(status) => status.number(),
             Answer::Busy => Number::Without,
+            Answer::ListMissing => Number::Without,
         }
     }
 }
@@ -47,15 +58,23 @@ pub struct Acted {
     pub answer: Answer,
 }
 
-// The answer so far: status, used counts (log words, replies), bytes programmed, and of a call that is
-// done what it gives: the SLCR clock word, and the last three replies, of which a register's byte or an id
-// is made.
+// The same after a start of a list, with the list that is kept.
+#[derive(Clone, Copy, Debug, PartialEq, Eq)]
+pub struct ListActed {
+    pub state: State,
+    pub list: SectorList,
+    pub answer: Answer,
+}
+
+// The answer so far: status, used counts (log words, replies), what it counts (bytes programmed by
+// `write_pages`, sectors finished of a list), and of an answer with values what it gives: the SLCR clock
+// word, the place of an entry, and the last three replies, of which a register's byte or an id is made.
 #[derive(Clone, Copy, Debug, PartialEq, Eq)]
 pub struct Progress {
     pub status: Status,
     pub used: usize,
     pub replies: usize,
-    pub programmed: usize,
+    pub counted: usize,
     pub gives: Gives,
     pub clock: u32,
     pub older: u32,
@@ -83,30 +102,93 @@ impl Progress {
     pub fn lqspi_clk_ctrl(self) -> u32 {
         self.clock
     }
-}
 
-// Begins a call, unless one is under way.
-pub fn begin(state: State, op: Op) -> Acted {
-    let at_hand = state.op;
-    let status = at_hand.status;
-    if qspi_operation::is_going(status) {
-        Acted {
-            state,
-            answer: Answer::Busy,
-        }
-    } else {
-        let status = op.status;
-        let next = State { op };
-        Acted {
-            state: next,
-            answer: Answer::Given(status),
+    // The place, from 0, of the entry that a list of sectors was refused for; 0 for any other answer.
+    pub fn place(self) -> u8 {
+        let gives = self.gives;
+        match gives {
+            Gives::Nothing => 0,
+            Gives::Register => 0,
+            Gives::Id => 0,
+            Gives::LongId => 0,
+            Gives::Clock => 0,
+            Gives::Place(at) => at,
         }
     }
 }
 
+// Begins a call, unless one is under way or the call is of a list, which `begin_list` begins.
+pub fn begin(state: State, op: Op) -> Acted {
+    let at_hand = state.op;
+    let status = at_hand.status;
+    if qspi_operation::is_going(status) {
+        return Acted {
+            state,
+            answer: Answer::Busy,
+        };
+    }
+    if qspi_operation::erases_list(op) {
+        return Acted {
+            state,
+            answer: Answer::ListMissing,
+        };
+    }
+    let status = op.status;
+    let next = State { op };
+    Acted {
+        state: next,
+        answer: Answer::Given(status),
+    }
+}
+
+// Begins a list of sectors, unless a call is under way: its numbers are kept beside the operation.
+pub fn begin_list(state: State, kept: SectorList, list: &[u32], log: usize) -> ListActed {
+    let at_hand = state.op;
+    let status = at_hand.status;
+    if qspi_operation::is_going(status) {
+        let answer = Answer::Busy;
+        return ListActed {
+            state,
+            list: kept,
+            answer,
+        };
+    }
+    let begun = start::erase_sectors(list, log);
+    let status = begun.status;
+    let next = State { op: begun };
+    let numbers = sectors::numbered(list);
+    let copied = SectorList { numbers };
+    ListActed {
+        state: next,
+        list: copied,
+        answer: Answer::Given(status),
+    }
+}
+
+// What the operation at hand is lent: a list of sectors its own copy, as far as it is long, and no other
+// data with it; any other operation the caller's data.
+fn lent_to<'a>(state: State, list: &'a [u8], data: &'a [u8]) -> &'a [u8] {
+    let at_hand = state.op;
+    if qspi_operation::erases_list(at_hand) {
+        if 0 < data.len() {
+            let none: usize = 0;
+            return &list[..none];
+        }
+        let job = at_hand.job;
+        let lent = job.lent;
+        let n = lent.data;
+        if n < list.len() {
+            return &list[..n];
+        }
+        return list;
+    }
+    data
+}
+
 // The access that is due.
-pub fn due(state: State, data: &[u8]) -> Asked {
-    qspi_operation::due(state.op, data)
+pub fn due<'a>(state: State, list: &'a [u8], data: &'a [u8]) -> Asked {
+    let lent = lent_to(state, list, data);
+    qspi_operation::due(state.op, lent)
 }
 
 pub fn answer_so_far(state: State) -> Progress {
@@ -121,7 +203,7 @@ pub fn answer_so_far(state: State) -> Progress {
         status,
         used: op.used,
         replies: op.replies,
-        programmed: qspi_operation::programmed(op),
+        counted: qspi_operation::counted(op),
         gives: run::given(status, gives),
         clock: run::kept(status, low_level.clock),
         older: run::kept(status, wire.older),
@@ -142,8 +224,16 @@ fn holding(stepped: Stepped) -> Acted {
 }
 
 // A step of the operation at hand. A call without data or without a read buffer is lent an empty one.
-pub fn step(state: State, data: &[u8], buffer: &mut [u8], log: &mut [u32], reply: Reply) -> Acted {
-    holding(qspi_operation::step(state.op, data, buffer, log, reply))
+pub fn step<'a>(
+    state: State,
+    list: &'a [u8],
+    data: &'a [u8],
+    buffer: &mut [u8],
+    log: &mut [u32],
+    reply: Reply,
+) -> Acted {
+    let lent = lent_to(state, list, data);
+    holding(qspi_operation::step(state.op, lent, buffer, log, reply))
 }
 
 // The next one of the replies that was not used, or none.
@@ -162,5 +252,6 @@ pub fn is_under_way(answer: Answer) -> bool {
     match answer {
         Answer::Given(status) => qspi_operation::is_going(status),
         Answer::Busy => false,
+        Answer::ListMissing => false,
     }
 }
