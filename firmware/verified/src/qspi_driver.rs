@@ -140,7 +140,8 @@ pub fn write_pages(
     drive(driver, op, data, &mut buffer, log, replies)
 }
 
-// A list of sectors, erased from the first to the last through the lent driver. The driver keeps the list.
+// A list of sectors, erased from the first to the last through the lent driver, which keeps the list. Its
+// contract states that it is the single erases one by one, and which sectors its log shows finished.
 pub fn erase_sectors(
     driver: QspiSpansionS25Fl256SIoMode,
     list: &[u32],
