@@ -6,6 +6,8 @@ use qspi_driver::Driven;
 use qspi_driver::QspiSpansionS25Fl256SIoMode;
 use qspi_driver::state;
 use qspi_driver::state::Answer;
+use qspi_driver::state::Progress;
+use qspi_driver::state::SectorList;
 use qspi_driver::state::State;
 use qspi_operation::Op;
 
@@ -23,15 +25,17 @@ pub const IO_MODE_ONE: u32 = 5;
 
 pub const IO_MODE_DUAL: u32 = 6;
 
-// Stands for an answer that has no number.
+// Stand for the answers that have no number.
 pub const BUSY: u32 = 256;
+
+pub const LIST_MISSING: u32 = 257;
 
 // How a call ended.
 pub struct Ended {
     pub answer: u32,
     pub used: usize,
     pub replies: usize,
-    pub programmed: usize,
+    pub counted: usize,
 }
 
 fn started(call: u32, addr: u32, length: usize) -> Op {
@@ -45,17 +49,20 @@ fn started(call: u32, addr: u32, length: usize) -> Op {
     }
 }
 
-// A driver at rest, or one whose call has not ended.
-fn driver(busy: bool) -> QspiSpansionS25Fl256SIoMode {
+// A driver at rest, or one whose call has not ended. Its list is seen where it is changed.
+pub fn driver(busy: bool) -> QspiSpansionS25Fl256SIoMode {
+    let idle = QspiSpansionS25Fl256SIoMode::idle();
+    let list = SectorList {
+        numbers: [memory::UNTOUCHED_BYTE; 256],
+    };
     if busy {
         let state = State {
             op: start::write_enable(LOG),
         };
-        let idle = QspiSpansionS25Fl256SIoMode::idle();
-        let list = idle.list;
         return QspiSpansionS25Fl256SIoMode { state, list };
     }
-    QspiSpansionS25Fl256SIoMode::idle()
+    let state = idle.state;
+    QspiSpansionS25Fl256SIoMode { state, list }
 }
 
 // A call that is lent the data or the buffer of its length, and an empty one of the other.
@@ -92,6 +99,12 @@ fn drive(
     end_of(qspi_driver::drive(driver(busy), op, data, buffer, log, replies))
 }
 
+// A list as any other call is begun, so that the driver is lent none.
+pub fn drive_list(list: &[u32], log: &mut [u32], replies: &[u32]) -> Driven {
+    let op = start::erase_sectors(list, log.len());
+    qspi_driver::drive(driver(false), op, &[], &mut [], log, replies)
+}
+
 fn read_length(call: u32, length: usize) -> usize {
     if call == READ { length } else { 0 }
 }
@@ -100,19 +113,26 @@ fn data_length(call: u32, length: usize) -> usize {
     if call < READ { length } else { 0 }
 }
 
-fn end_of(driven: Driven) -> Ended {
+pub fn progress(driven: Driven) -> Progress {
     let driver = driven.driver;
+    state::answer_so_far(driver.state)
+}
+
+pub fn end_of(driven: Driven) -> Ended {
     let answer = driven.answer;
-    let progress = state::answer_so_far(driver.state);
+    let progress = progress(driven);
     Ended {
         answer: number(answer),
         used: progress.used,
         replies: progress.replies,
-        programmed: progress.programmed,
+        counted: progress.counted,
     }
 }
 
 fn number(answer: Answer) -> u32 {
     let number = answer.number();
-    number.unwrap_or(BUSY)
+    match answer {
+        Answer::ListMissing => LIST_MISSING,
+        _ => number.unwrap_or(BUSY),
+    }
 }

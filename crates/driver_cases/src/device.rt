@@ -40,6 +40,18 @@ pub fn replies(call: u32, addr: u32, length: usize, replies: &mut [u32]) {
     }
 }
 
+// Those to erases one after the other: each leaves the device as it was.
+pub fn erase_replies(replies: &mut [u32]) {
+    let mut one = [0u32; 18];
+    self::replies(call::ERASE, 0, 0, &mut one);
+    memory::repeat(&one, replies);
+}
+
+// A word received whose top byte is this status register.
+pub fn status_word(status: u32) -> u32 {
+    status % 0x100 * 0x100_0000 + RECEIVED
+}
+
 // The last of these replies as it should be: the call is run on them, and its log says what was asked.
 fn reply(call: u32, addr: u32, length: usize, replies: &[u32]) -> u32 {
     let mut buffer = [0u8; memory::BUFFER];

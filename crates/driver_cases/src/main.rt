@@ -1,5 +1,6 @@
-// Runs the station cases of document 01 through the driver's methods and prints the answer of each, the used
-// counts, how far the call changed log and buffer, and the words that it sent, read from its log.
+// Runs the station cases of document 01 and cases of lists of sectors through the driver's methods and prints
+// the answer of each, the used counts, how far the call changed log and buffer, and the words that it sent,
+// read from its log.
 // The stored output is made by `tools/driver_cases`, which has the same cases from the paper.
 use crate::call::Ended;
 use crate::memory::LOG;
@@ -8,6 +9,7 @@ use zynq7000::qspi;
 mod call;
 mod clock;
 mod device;
+mod lists;
 mod memory;
 mod print;
 
@@ -35,6 +37,7 @@ fn main() {
     case(call::IO_MODE_ONE, 0, 0);
     case(call::IO_MODE_DUAL, 0, 0);
     erase_while_busy(0x0003_0000);
+    lists::cases();
 }
 
 fn case(call: u32, addr: u32, length: usize) {
@@ -64,7 +67,7 @@ fn show(busy: bool, call: u32, addr: u32, length: usize) {
 fn result(call: u32, end: Ended) {
     print::answer(end.answer);
     if call == call::WRITE_PAGES {
-        print::labelled(print::PROGRAMMED, end.programmed);
+        print::labelled(print::PROGRAMMED, end.counted);
     }
     print::labelled(print::USED, end.used);
     print::labelled(print::REPLIES, end.replies);

@@ -7,9 +7,10 @@ use zynq7000::qspi::Access;
 const SHOWN: usize = 5;
 
 // The labels of numbers, by place.
-const LABELS: [u8; 181] = *b"\
+const LABELS: [u8; 240] = *b"\
     clocks: I/O reference |, reference target |, cpu_1x |interface target |loopback target |\
     : clock divisor |, quotient |, baud rate divisor |, programmed |; used log words |, replies |\
+    , place |, finished |, log words |, replies lent |, reply |\
 ";
 
 pub const IO_REFERENCE: usize = 0;
@@ -34,6 +35,16 @@ pub const USED: usize = 9;
 
 pub const REPLIES: usize = 10;
 
+pub const PLACE: usize = 11;
+
+pub const FINISHED: usize = 12;
+
+pub const LOG_WORDS: usize = 13;
+
+pub const REPLIES_LENT: usize = 14;
+
+pub const REPLY: usize = 15;
+
 // The titles by call: what stands before the length, or before the address of a call without one.
 const TITLES: [u8; 95] = *b"\
     program |write_pages of |read of |erase |empty read at |io mode, one flash|io mode, dual flash|\
@@ -42,10 +53,12 @@ const TITLES: [u8; 95] = *b"\
 // What stands between the length and the address.
 const UNITS: [u8; 47] = *b" bytes of DE AD BE EF at | bytes at | byte at |";
 
-// Of the log and the buffer.
-const UNTOUCHED: [u8; 35] = *b"; log untouched|, buffer untouched|";
+// Of the log, the buffer, and the list that the driver keeps.
+const UNTOUCHED: [u8; 57] = *b"; log untouched|, buffer untouched|, kept list untouched|";
 
-const CHANGED: [u8; 55] = *b"; log changed up to word |, buffer changed up to byte |";
+const CHANGED: [u8; 87] = *b"\
+    ; log changed up to word |, buffer changed up to byte |, kept list changed up to byte |\
+";
 
 pub fn labelled(label: usize, n: usize) {
     printing::entry(&LABELS, label);
@@ -63,15 +76,47 @@ pub fn title(call: u32, addr: u32, length: usize) {
     }
 }
 
+// The first entries of a list, and the last one where there are more.
+pub fn list(list: &[u32]) {
+    printing::text(b"erase_sectors [");
+    let mut at: usize = 0;
+    while at < list.len() {
+        entry(list, at);
+        at += 1;
+    }
+    printing::text(b"]");
+}
+
+fn entry(list: &[u32], at: usize) {
+    if at < list.len() {
+        if at < SHOWN {
+            separated(at, list[at]);
+        } else if at == list.len() - 1 {
+            printing::decimal(b" and ", list.len() - SHOWN);
+            printing::hex(b" more, last ", list[at], 8);
+        }
+    }
+}
+
+fn separated(at: usize, addr: u32) {
+    if 0 < at {
+        printing::text(b" ");
+    }
+    printing::hex(b"", addr, 8);
+}
+
 pub fn answer(number: u32) {
     if number == call::BUSY {
         return printing::text(b": Busy");
+    }
+    if number == call::LIST_MISSING {
+        return printing::text(b": ListMissing");
     }
     printing::text(b": ");
     printing::answer(number);
 }
 
-// How far memory was changed: the log (0) or the buffer (1).
+// How far memory was changed: the log (0), the buffer (1) or the list that the driver keeps (2).
 pub fn changed(memory: usize, end: usize) {
     if end == 0 {
         return printing::entry(&UNTOUCHED, memory);

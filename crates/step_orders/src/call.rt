@@ -1,4 +1,4 @@
-// The calls by number, and the start of each.
+// The calls by number, and the start of each that is lent no list.
 use qspi_calls::start;
 use qspi_calls::start::Config;
 use qspi_calls::start::Latency;
@@ -8,7 +8,10 @@ use zynq7000::slcr::clocks::SrcSelIo;
 use zynq7000_hal::qspi::BaudRateConfig;
 use zynq7000_hal::qspi::ClockConfig;
 
-pub const CALLS: usize = 21;
+pub const CALLS: usize = 22;
+
+// Begun by `list::start`, or with its list.
+pub const ERASE_SECTORS: usize = 21;
 
 // The call's start, by its inputs, over a log of so many words.
 pub fn start(call: usize, a: u32, b: usize, log: usize) -> Op {

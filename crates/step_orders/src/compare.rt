@@ -1,4 +1,7 @@
-// An order, under way or ended, beside the run of the same start over the replies that it used.
+// An order, under way or ended, beside the run of the same start over the replies that it used; that of a list
+// beside its single erases.
+use crate::call::ERASE_SECTORS;
+use crate::erases;
 use crate::memory;
 use crate::memory::BYTES;
 use crate::memory::LOG;
@@ -57,6 +60,9 @@ fn run(
     let replies = memory::replies(log);
     let buffer = memory::least(order.buffer, bytes.len());
     let room = memory::least(order.room, words.len());
+    if order.call == ERASE_SECTORS {
+        return erases::run(order, &mut words[..room], memory::front(&replies, count));
+    }
     finished(qspi_operation::run(
         order::start(order),
         memory::front_bytes(data, order.data),

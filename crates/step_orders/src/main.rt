@@ -2,7 +2,7 @@
 // change nothing, and compares each order with the run over the replies that it used.
 //
 // A line for each call has the orders, the right steps, the steps that met another length, the starts that met
-// a call under way, the queries, the repeated steps, how many orders ended by each answer, how many were left
+// a call under way, of a list the starts without it, the queries, the repeated steps, how many orders ended by each answer, how many were left
 // under way, and a digest of all that was seen. Where something differs, a line `DIFFERS` names the call, the
 // order and what it is: what a step, a start or a query said or did, the run, or memory that was to be left
 // alone. `tools/step_orders` makes the stored output by a model.
@@ -16,8 +16,10 @@ use crate::tally::SLOTS;
 
 mod call;
 mod compare;
+mod erases;
 mod judge;
 mod lengths;
+mod list;
 mod memory;
 mod order;
 mod print;

@@ -2,6 +2,8 @@
 // how many they end, after how many turns it is left, and in how many turns two are no right step.
 use crate::call;
 use crate::call::CALLS;
+use crate::call::ERASE_SECTORS;
+use crate::list;
 use crate::memory::REPLIES;
 use crate::random;
 use qspi_operation::Op;
@@ -30,7 +32,7 @@ pub fn drawn(call: usize, draw: u32) -> Order {
     let room = random::next(second);
     let ends = random::next(room);
     let turns = random::next(ends);
-    let b = length(call, random::number(pick) / 8 % 8, random::number(second));
+    let b = measure(call, random::number(pick) / 8 % 8, random::number(second));
     Order {
         call,
         a: input(call, random::number(pick) % 8, random::word(first)),
@@ -52,6 +54,9 @@ pub fn any(draw: u32) -> Order {
 }
 
 pub fn start(order: Order) -> Op {
+    if order.call == ERASE_SECTORS {
+        return list::start(order);
+    }
     call::start(order.call, order.a, order.b, order.room)
 }
 
@@ -93,7 +98,15 @@ fn address(pick: usize, word: u32) -> u32 {
     }
 }
 
-// The second input: a length, or a number by call. Any, one near the greatest of `program` and of a read's
+// The second input: the entries of a list, or a length.
+fn measure(call: usize, pick: usize, n: usize) -> usize {
+    if call == ERASE_SECTORS {
+        return list::length(pick, n);
+    }
+    length(call, pick, n)
+}
+
+// A length, or a number by call. Any, one near the greatest of `program` and of a read's
 // chunk, one near two chunks of a read, one of whole words, or a short one.
 fn length(call: usize, pick: usize, n: usize) -> usize {
     match pick {

@@ -1,13 +1,15 @@
 // What is counted of a call's orders, what was seen of them as one number, and what differed. The orders that
-// ended by an answer are counted in the slot of its number.
+// ended by an answer are counted in the slot of its number; of the answers from 32 on, behind the counts.
 use crate::judge;
 use crate::memory;
 use crate::turn::Turn;
 use qspi_driver::state::Answer;
 use qspi_driver::state::Progress;
+use qspi_script::Gives;
+use qspi_script::Number;
 use qspi_script::Status;
 
-pub const SLOTS: usize = 48;
+pub const SLOTS: usize = 50;
 
 // Stands for the answer of a call that is under way.
 pub const UNDER_WAY: u32 = 32;
@@ -35,6 +37,12 @@ pub const DIGEST: usize = 41;
 // What differed in the order at hand.
 pub const DIFFERS: usize = 42;
 
+// Stands for a start that is refused since it is of a list that is not lent.
+pub const MISSING: u32 = 43;
+
+// How far the slots of the answers from 32 on lie behind their numbers.
+pub const BEHIND: u32 = 16;
+
 // What may differ, a bit each.
 pub const STEP: u32 = 1;
 
@@ -42,17 +50,27 @@ pub const RUN: u32 = 2;
 
 pub const MEMORY: u32 = 4;
 
-// Document 01's number of a status that has one.
+// The slot of a status.
 pub fn number(status: Status) -> u32 {
     let number = status.number();
-    number.unwrap_or(UNDER_WAY)
+    match number {
+        Number::Of(n) => behind(n as u32),
+        Number::Without => UNDER_WAY,
+    }
+}
+
+fn behind(number: u32) -> u32 {
+    if number < 32 {
+        return number;
+    }
+    std::num::wrapping_add_u32(number, BEHIND)
 }
 
 pub fn number_of(answer: Answer) -> u32 {
     match answer {
         Answer::Given(status) => number(status),
         Answer::Busy => BUSY,
-        Answer::ListMissing => BUSY,
+        Answer::ListMissing => MISSING,
     }
 }
 
@@ -96,6 +114,7 @@ fn slot(turn: Turn) -> usize {
         25 => CHANGED,
         BUSY => OTHERS,
         STARTED => ORDERS,
+        MISSING => MISSING as usize,
         _ => stepped(turn),
     }
 }
@@ -113,7 +132,7 @@ pub fn told(turn: Turn) -> u32 {
     let h = memory::mix(memory::mix(turn.answer, turn.first), turn.value);
     memory::mix_count(
         memory::mix_count(memory::mix_count(h, turn.used), turn.replies),
-        turn.programmed,
+        turn.counted,
     )
 }
 
@@ -124,7 +143,7 @@ pub fn summary(progress: Progress) -> u32 {
         memory::mix_count(number(status), progress.used),
         progress.replies,
     );
-    let h = memory::mix(memory::mix_count(h, progress.programmed), progress.older);
+    let h = memory::mix(memory::mix_count(h, progress.counted), progress.older);
     memory::mix(memory::mix(h, progress.old), progress.last)
 }
 
@@ -132,4 +151,20 @@ pub fn ended(tally: &mut [u32; SLOTS], progress: Progress) {
     let status = progress.status;
     count(tally, number(status) as usize);
     note(tally, summary(progress));
+    placed(tally, progress);
+}
+
+// The place that a list was refused for.
+fn placed(tally: &mut [u32; SLOTS], progress: Progress) {
+    let gives = progress.gives;
+    match gives {
+        Gives::Place(_) => note(tally, progress.place() as u32),
+        _ => {}
+    }
+}
+
+// A start of a list that is not lent, before any other.
+pub fn missed(tally: &mut [u32; SLOTS], answer: Answer) {
+    expect(tally, STEP, number_of(answer) == MISSING);
+    count(tally, MISSING as usize);
 }

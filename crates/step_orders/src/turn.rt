@@ -1,4 +1,5 @@
 // A turn of an order: what the driver says before it, what is drawn for it, and what is expected of it.
+use crate::call::ERASE_SECTORS;
 use crate::memory;
 use crate::order::Order;
 use crate::random;
@@ -9,11 +10,13 @@ use qspi_driver::state::Progress;
 use qspi_operation::Asked;
 use qspi_operation::Reply;
 
-// What is done in a turn: a step that is lent the right lengths, a step aside that is lent others, a start.
+// What is done in a turn: a step that is lent the right lengths, a step aside that is lent others, a start, a
+// start of a list that is not lent.
 pub enum Act {
     Step,
     Aside,
     Begin,
+    Missing,
 }
 
 // Stands for the first log word where no access is due, or where it is not told.
@@ -27,7 +30,7 @@ pub struct Turn {
     pub answer: u32,
     pub used: usize,
     pub replies: usize,
-    pub programmed: usize,
+    pub counted: usize,
     pub first: u32,
     pub value: u32,
     pub source: Source,
@@ -43,7 +46,7 @@ pub fn start(order: Order) -> Turn {
         answer: tally::STARTED,
         used: 0,
         replies: 0,
-        programmed: 0,
+        counted: 0,
         first: NOTHING,
         value: 0,
         source,
@@ -59,13 +62,13 @@ pub fn next(turn: Turn, order: Order, progress: Progress, asked: Asked) -> Turn 
     let answer = tally::number(status);
     let draw = random::next(turn.draw);
     let source = after(turn);
-    let act = chosen(answer, order.calm, random::number(draw));
+    let act = chosen(order, answer, random::number(draw));
     let first = first_word(asked);
     Turn {
         answer,
         used: progress.used,
         replies: progress.replies,
-        programmed: progress.programmed,
+        counted: progress.counted,
         first,
         value: source::value(order.style, source, asked),
         source,
@@ -84,16 +87,25 @@ fn after(turn: Turn) -> Source {
     source
 }
 
-// No other call is begun where this one has ended.
-fn chosen(answer: u32, calm: usize, n: usize) -> Act {
+fn chosen(order: Order, answer: u32, n: usize) -> Act {
     if answer != tally::UNDER_WAY {
-        return if n % 2 == 0 { Act::Step } else { Act::Aside };
+        return repeated(order.call, n);
     }
-    match random::below(n, calm) {
+    match random::below(n, order.calm) {
         0 => Act::Aside,
         1 => Act::Begin,
         _ => Act::Step,
     }
+}
+
+// No other call is begun where this one has ended.
+fn repeated(call: usize, n: usize) -> Act {
+    if call == ERASE_SECTORS {
+        if n / 64 % 4 == 0 {
+            return Act::Missing;
+        }
+    }
+    if n % 2 == 0 { Act::Step } else { Act::Aside }
 }
 
 pub fn first_word(asked: Asked) -> u32 {
@@ -108,13 +120,17 @@ pub fn first_word(asked: Asked) -> u32 {
 // 25 aside, 24 where two words of log are not left, 23 where a read has no reply, and again the answer of a call
 // that has ended.
 fn expected(order: Order, answer: u32, act: Act, first: u32, used: usize, replies: usize) -> u32 {
+    match act {
+        Act::Missing => return tally::MISSING,
+        _ => {}
+    }
     if answer != tally::UNDER_WAY {
         return answer;
     }
     match act {
         Act::Aside => return 25,
         Act::Begin => return tally::BUSY,
-        Act::Step => {}
+        _ => {}
     }
     if order.room < std::num::wrapping_add_usize(used, 2) {
         return 24;

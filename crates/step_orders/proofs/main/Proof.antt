@@ -8,7 +8,7 @@ abbrev Inv-loop : tie.InvT-loop
 Inv-loop call₀ call = Unit {0}
 
 abbrev μ-loop : tie.MeasureT-loop
-μ-loop call₀ call = 21 - call
+μ-loop call₀ call = 22 - call
 
 loop-holds : tie.Need-loop-holds Inv-loop μ-loop
 loop-holds c = tt

@@ -1,15 +1,15 @@
--- `step_orders::print::answers` is safe and ends: the answer's number rises to 32. Assumes nothing.
+-- `step_orders::print::answers` is safe and ends: it counts up to the slots. Assumes nothing.
 use Prim.Native.Nat.{_-_}
-use native.Mathlib.Omega.{arith}
 use borrow.Author.Needs.{needs}
+use native.Mathlib.Omega.{arith}
 use Rattle.step_orders.proofs.print.answers.Statement.{statement}
 use Rattle.step_orders.proofs.print.answers.Tie as tie
 
 abbrev Inv-loop : tie.InvT-loop
-Inv-loop tally number₀ number = Unit {0}
+Inv-loop tally slot₀ slot = Unit {0}
 
 abbrev μ-loop : tie.MeasureT-loop
-μ-loop tally number₀ number = 32 - number
+μ-loop tally slot₀ slot = 50 - slot
 
 loop-holds : tie.Need-loop-holds Inv-loop μ-loop
 loop-holds c = tt
@@ -23,8 +23,8 @@ element-copy-out-answer c = omega arith
 answer-requires : tie.Need-answer-requires Inv-loop μ-loop
 answer-requires c κs = tt
 
-add-number : tie.Need-add-number Inv-loop μ-loop
-add-number c = omega arith
+add-slot : tie.Need-add-slot Inv-loop μ-loop
+add-slot c = omega arith
 
 loop-less : tie.Need-loop-less Inv-loop μ-loop
 loop-less c = omega arith
@@ -45,7 +45,7 @@ answers-spec =
     mul-answer
     element-copy-out-answer
     answer-requires
-    add-number
+    add-slot
     loop-less
     loop-again
     returns)
