@@ -117,13 +117,3 @@ module _ {M : Type 1} (𝓤 : URA M) (H : Heap 𝓤) (A : Atoms 𝓤) where
     pub owed-first : (r : row .Denot) (v : Val) → Is row r (v ∷ []) → Is (S .row) (first r) (S .val (first r) ∷ [])
     pub owed-second : (r : row .Denot) (v : Val) → Is row r (v ∷ []) → Is (L .row) (second r) (L .val (second r) ∷ [])
     pub owed-third : (r : row .Denot) (v : Val) → Is row r (v ∷ []) → Is (N .row) (third r) (N .val (third r) ∷ [])
-
-  -- a struct of a struct that lies in memory and another field, as it is returned
-  pub record Outcome (S L N : Known) (D : Duo S L) : Type 2 where
-    pub row : RattleType
-    pub name : Sym
-    pub make : D .row .Denot → N .row .Denot → row .Denot
-    pub typed : (r : row .Denot) (v : Val) → Is row r (v ∷ []) → Holds (hasTy (tyStruct name (tcons (tyStruct (D .name) (tcons (S .ty) (tcons (L .ty) tnil))) (tcons (N .ty) tnil))) v) × WT v
-    pub owes : (d : D .row .Denot) (a : N .row .Denot) → Is (D .row) d (vstruct (vcons (S .val (D .first d)) (vcons (L .val (D .second d)) vnil)) ∷ []) → Is (N .row) a (N .val a ∷ [])
-        → Is row (make d a) (vstruct (vcons (vstruct (vcons (S .val (D .first d)) (vcons (L .val (D .second d)) vnil))) (vcons (N .val a) vnil)) ∷ [])
-    pub makes : Makes 𝓤 H A row (Is row)

@@ -1,5 +1,4 @@
 pub mod Lend
-pub mod Again
 pub mod Clauses
 pub mod Known
 pub mod Branch

@@ -7,7 +7,6 @@ pub mod ThinErase
 pub mod ThinDue
 pub mod ThinAnswer
 pub mod Driving
-pub mod FinishWalk
 pub mod Saving
 pub mod DriverLaws
 pub mod Clearing

@@ -18,7 +18,7 @@ use prog.Wp.{Heap}
 use ghost.Atoms.{Atoms, sem}
 use types.Kit.{Given}
 use denote.Struct.Laws as LL
-use Rattle.hand_walks.proofs.Known.{Known, of-struct, of-enum, Duo, Lender, Pair, Trio, Outcome}
+use Rattle.hand_walks.proofs.Known.{Known, of-struct, of-enum, Duo, Lender, Pair, Trio}
 use Rattle.hand_walks.proofs.Part.{Part, bytesAt, bytesVal, second-at, bytes-in-second}
 use Rattle.qspi_driver.specs.declared.QspiSpansionS25Fl256SIoMode.{QspiSpansionS25Fl256SIoMode}
 use Rattle.qspi_driver.proofs.QspiSpansionS25Fl256SIoMode as Driverᵀ
@@ -134,14 +134,4 @@ module _ {M : Type 1} (𝓤 : URA M) (H : Heap 𝓤) (A : Atoms 𝓤) (W : Given
     owed-first = λ r v is. LL.owed ListActedᵀ.the-type ListActedᴸ.the-laws r (v ∷ []) is .0;
     owed-second = λ r v is. LL.owed ListActedᵀ.the-type ListActedᴸ.the-laws r (v ∷ []) is .1 .0;
     owed-third = λ r v is. LL.owed ListActedᵀ.the-type ListActedᴸ.the-laws r (v ∷ []) is .1 .1 .0;
-  }
-
-  abbrev pub driven : Outcome 𝓤 H A state list answer driver
-  driven = record {
-    row = Drivenᵀ.the-row;
-    name = Drivenᵀ.struct .name;
-    make = λ d a. record { driver = d; answer = a };
-    typed = λ x v is. LL.lawful Drivenᵀ.the-type Drivenᴸ.the-laws 𝓤 H A W .typed x (v ∷ []) is .0;
-    owes = λ d a f g. LL.owes Drivenᵀ.the-type Drivenᴸ.the-laws (record { driver = d; answer = a }) (f, (g, tt));
-    makes = LL.makes Drivenᵀ.the-type Drivenᴸ.the-plain 𝓤 H A;
   }

@@ -1,5 +1,5 @@
 // The outer layer: one small driver state, lent by `&mut` to each start and step and updated. A method
-// takes it apart and calls the covered function of `state`; `drive` runs a whole call through `step`.
+// takes it apart and calls the covered function of `state`; `drive` runs a whole call by the same ones.
 ghost use mathlib.Core.Path.{_≡_};
 ghost use mathlib.Core.Bool.{true, false};
 ghost use lib.ListN.{length};
@@ -108,8 +108,8 @@ pub struct Driven {
     pub answer: Answer,
 }
 
-// The rest of a call that answered `answer` so far, through the lent driver: it is stepped to its end, the
-// replies in order.
+// The rest of a call that was begun: it is stepped to its end, the replies in order. State and list are
+// taken apart: in one struct, of which a step is lent the list, the operation would not stay in registers.
 fn finish(
     driver: QspiSpansionS25Fl256SIoMode,
     begun: Answer,
@@ -123,20 +123,24 @@ fn finish(
     ensures stored { λ _. ⌜ now (buffer .exit) ≡ finishedOf driver begun (now («data» .entry)) (now (replies .entry)) (now (buffer .entry)) (now (log .entry)) .buffer ⌝ }
     ensures logged { λ _. ⌜ now (log .exit) ≡ finishedOf driver begun (now («data» .entry)) (now (replies .entry)) (now (buffer .entry)) (now (log .entry)) .log ⌝ }
 {
-    let mut lent = driver;
+    let list = driver.list;
+    let mut at_hand = driver.state;
     let mut answer = begun;
     while state::is_under_way(answer) {
-        let reply = state::next_reply(lent.state, replies);
-        answer = lent.step(data, buffer, log, reply);
+        let reply = state::next_reply(at_hand, replies);
+        let s = state::step(at_hand, &list.numbers, data, buffer, log, reply);
+        at_hand = s.state;
+        answer = s.answer;
     }
-    Driven {
-        driver: lent,
-        answer,
-    }
+    let driver = QspiSpansionS25Fl256SIoMode {
+        state: at_hand,
+        list,
+    };
+    Driven { driver, answer }
 }
 
-// A whole call: `op` is begun and stepped to its end through the lent driver, the replies in order. A caller
-// that has the driver by value needs no proof by hand.
+// A whole call: `op` is begun and stepped to its end, the replies in order. A caller that has the driver by
+// value needs no proof by hand.
 pub fn drive(
     driver: QspiSpansionS25Fl256SIoMode,
     op: Op,
@@ -160,7 +164,7 @@ pub fn drive(
     finish(begun, answer, data, buffer, log, replies)
 }
 
-// A save through the lent driver. Its contract states what a power cut can leave in the flash.
+// A save through the driver. Its contract states what a power cut can leave in the flash.
 pub fn write_pages(
     driver: QspiSpansionS25Fl256SIoMode,
     addr: u32,
@@ -176,7 +180,7 @@ pub fn write_pages(
     drive(driver, op, data, &mut buffer, log, replies)
 }
 
-// A list of sectors, erased from the first to the last through the lent driver, which keeps the list. Its
+// A list of sectors, erased from the first to the last through the driver, which keeps the list. Its
 // contract states that it is the single erases one by one, and which sectors its log shows finished.
 pub fn erase_sectors(
     driver: QspiSpansionS25Fl256SIoMode,
