@@ -25,9 +25,9 @@ among-chunks = here
 abbrev pub prompt : Prompt
 prompt = record { idle = 0; ready = 0x10; opens = 0x8008C4C1; starts = 0x8008C0C1; closes = 0x8008C0C1; is-idle = refl; is-ready = refl }
 
-pub line-log : PagesLog (chunks 0x000100 line) ((promptly enabling prompt (0 ∷ []) ++ (promptly (programming 0x000100 line) prompt (0 ∷ []) ++ promptly statusReading prompt (0 ∷ []))) ++ [])
+pub line-log : PagesLog (chunks 0x000100 line) ((promptly enabling prompt (0 ∷ []) ++ (promptly (programming 0x000100 line) prompt (0 ∷ 0 ∷ []) ++ promptly statusReading prompt (0 ∷ []))) ++ [])
 unfolding chunks chunksIn
-line-log = pages-more prompt prompt prompt 0 0 (0 ∷ []) refl refl refl refl refl refl refl pages-none
+line-log = pages-more prompt prompt prompt 0 0 (0 ∷ 0 ∷ []) refl refl refl refl refl refl refl pages-none
 
 pub not-last : NotLast (record { address = 0; bytes = take 128 (zeros 132) }) (chunks 0 (zeros 132))
 unfolding chunks chunksIn

@@ -1,11 +1,11 @@
 -- The premises of Precisely, Failures, Refusals and ReadIndex, and of Shown and Changes in qspi_operation, can be met: a run that gives each of 21 to 24, and 4 and 5 after a finished chunk;
--- a `read_index` of 240; a byte that changes. Assumes nothing.
+-- a `read_index` of 244; a byte that changes. Assumes nothing.
 use mathlib.Core.Path.{_≡_, refl}
 use mathlib.Core.Bool.{true, false}
 use mathlib.Core.List.{List, [], _∷_, _++_}
 use Prim.Native.Nat.{ℕ, zero, suc}
 use lib.ListN.{replicate}
-use Rattle.qspi_transfer.specs.declared.Phase.the-variants.{Take}
+use Rattle.qspi_transfer.specs.declared.Phase.the-variants.{Take, CloseRead}
 use Rattle.qspi_script.specs.declared.Stage.the-variants as stage
 use Rattle.qspi_script.specs.declared.Status.the-variants.{Going, NotAligned, CrossesPageBoundary, EraseErrorBitSet, ProgrammingErrorBitSet, RepliesEnded, LogFull}
 use Rattle.qspi_script.specs.declared.Gives.the-variants as gives
@@ -27,13 +27,14 @@ use Rattle.qspi_calls.proofs.Refusals.{byInput}
 abbrev pub once : ℕ → List ℕ
 once r = 0 ∷ 0 ∷ 0 ∷ 0x10 ∷ r ∷ 0 ∷ []
 
--- so many replies of `program`, each after two status reads
+-- so many replies, each after two status reads
 abbrev taken : ℕ → List ℕ
 taken zero = []
 taken (suc n) = 0x10 ∷ 0x10 ∷ 0 ∷ taken n
 
+-- what `program` of so many words reads
 abbrev programmed : ℕ → List ℕ
-programmed n = 0 ∷ 0 ∷ 0 ∷ taken n ++ 0 ∷ []
+programmed n = 0 ∷ 0 ∷ 0 ∷ taken (suc n) ++ 0 ∷ []
 
 -- 21: the status shows bit 5
 pub erase-fails : called (eraseSector 0) 60 (once 0 ++ (once 0 ++ (once 0x20000000 ++ (once 0 ++ once 0)))) .answer ≡ EraseErrorBitSet
@@ -77,15 +78,21 @@ pub steps-later : (g : Lending) (rs : List Reply) (o₀ o : Op) → Later o₀ o
 steps-later g [] o₀ o l = l
 steps-later g (r ∷ rs) o₀ o l = steps-later g rs o₀ _ (then l (g .bytes) _ (g .room) r)
 
--- `program` of 240 bytes reaches a `read_index` of 240
+-- `program` of 240 bytes adds 4 to a `read_index` of 240 at its last reply, and reaches 244
 abbrev lent : Lending
 lent = record { bytes = zeros 240; buffer = []; room = 1000 }
 
-abbrev prompt : List Reply
-prompt = Word 0 ∷ replicate 11 (Word 0x10) ++ Word 0 ∷ replicate 246 (Word 0x10)
+abbrev prompt : ℕ → List Reply
+prompt n = Word 0 ∷ replicate 11 (Word 0x10) ++ Word 0 ∷ replicate n (Word 0x10)
 
-pub reaches-240 : opAfter lent prompt (start.programOf 0 240 1000) .wire .«read_index» ≡ 240
-reaches-240 = refl
+abbrev programs-240 : ℕ → Op
+programs-240 n = opAfter lent (prompt n) (start.programOf 0 240 1000)
+
+pub takes-at-240 : (programs-240 248 .wire .phase ≡ Take) × (programs-240 248 .wire .«read_index» ≡ 240)
+takes-at-240 = (refl, refl)
+
+pub reaches-244 : (programs-240 249 .wire .phase ≡ CloseRead) × (programs-240 249 .wire .«read_index» ≡ 244)
+reaches-244 = (refl, refl)
 
 -- a query shows an access
 pub shows-read : dueOf (start.oneTransfer stage.Enable gives.Nothing 100) [] ≡ asked.Read 0x04

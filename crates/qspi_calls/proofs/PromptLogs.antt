@@ -150,7 +150,7 @@ worked bit failure x a b c r s rs e f g = logs (call.working bit failure x (ends
 pub data PagesLog : List Chunk → List Access → Type 0 where
   pages-none : PagesLog [] []
   pages-more : {c : Chunk} {l : List Chunk} {rest : List Access} (a b d : Prompt) (r s : ℕ) (rs : List ℕ) → ltb 16777215 (c .address + length (c .bytes)) ≡ false → ltb 240 (length (c .bytes)) ≡ false
-      → eqb (length (c .bytes) % 4) 0 ≡ true → ltb 256 (c .address % 256 + length (c .bytes)) ≡ false → length rs ≡ length (c .bytes) / 4 → isSet 6 (top (s ∷ [])) ≡ false → isSet 0 (top (s ∷ [])) ≡ false
+      → eqb (length (c .bytes) % 4) 0 ≡ true → ltb 256 (c .address % 256 + length (c .bytes)) ≡ false → length rs ≡ suc (length (c .bytes) / 4) → isSet 6 (top (s ∷ [])) ≡ false → isSet 0 (top (s ∷ [])) ≡ false
       → PagesLog l rest → PagesLog (c ∷ l) (working (call.programming (c .address) (c .bytes)) a b d r rs s ++ rest)
 
 record Counts (l : List Chunk) (n : ℕ) (log : List Access) : Type 0 where

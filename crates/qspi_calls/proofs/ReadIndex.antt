@@ -244,45 +244,46 @@ data WorkStage : Stage → Type 0 where
   is-clear : WorkStage stage.Clear
   is-disable : WorkStage stage.Disable
 
--- a chunk of whole words within the limit, or the end
-data WorkAt (limit : ℕ) : Place → Type 0 where
-  work-at : {s : Stage} {d c sr cr : ℕ} → WorkStage s → c ≤ limit → c % 4 ≡ 0 → WorkAt limit (record { stage = s; done = d; chunk = c; sr = sr; cr = cr })
-  work-end : {d c sr cr : ℕ} → WorkAt limit (record { stage = stage.End; done = d; chunk = c; sr = sr; cr = cr })
+-- a chunk of whole words, no longer than the largest, or the end
+data WorkAt (largest : ℕ) : Place → Type 0 where
+  work-at : {s : Stage} {d c sr cr : ℕ} → WorkStage s → c ≤ largest → c % 4 ≡ 0 → WorkAt largest (record { stage = s; done = d; chunk = c; sr = sr; cr = cr })
+  work-end : {d c sr cr : ℕ} → WorkAt largest (record { stage = stage.End; done = d; chunk = c; sr = sr; cr = cr })
 
-module _ (sequel : Sequel) (a n log limit : ℕ) (least : 128 ≤ limit) where
+module _ (sequel : Sequel) (a n log largest : ℕ) (least : 128 ≤ largest) where
   abbrev work-job : Job
   work-job = start.programsJob sequel a n log
 
-  work-most : (p : Place) → WorkAt limit p → frameOf work-job p .bytes ≤ limit
+  -- "n + 1 replies": 4 more than the chunk has bytes
+  work-most : (p : Place) → WorkAt largest p → frameOf work-job p .bytes ≤ largest + 4
   work-most p (work-at is-enable h e) = omega arith
-  work-most p (work-at is-program h e) = h
+  work-most p (work-at is-program h e) = omega (arith, h)
   work-most p (work-at is-poll h e) = omega arith
   work-most p (work-at is-clear h e) = omega arith
   work-most p (work-at is-disable h e) = omega arith
   work-most p work-end = omega arith
 
-  work-fours : (p : Place) → WorkAt limit p → frameOf work-job p .bytes % 4 ≡ 0
+  work-fours : (p : Place) → WorkAt largest p → frameOf work-job p .bytes % 4 ≡ 0
   work-fours p (work-at is-enable h e) = refl
-  work-fours p (work-at is-program h e) = e
+  work-fours p (work-at is-program h e) = omega (arith, e)
   work-fours p (work-at is-poll h e) = refl
   work-fours p (work-at is-clear h e) = refl
   work-fours p (work-at is-disable h e) = refl
   work-fours p work-end = refl
 
   -- the chunk after the bytes done
-  next-page : (s : Stage) (d c sr cr : ℕ) → WorkAt limit (nextPage work-job (record { stage = s; done = d; chunk = c; sr = sr; cr = cr }) .place)
+  next-page : (s : Stage) (d c sr cr : ℕ) → WorkAt largest (nextPage work-job (record { stage = s; done = d; chunk = c; sr = sr; cr = cr }) .place)
   next-page s d c sr cr = go (eqb (min (n - d) 128) 0) (eqb (min (n - d) 128 % 4) 0) refl (ltb 256 (chunkAddress work-job (pageAt work-job (record { stage = s; done = d; chunk = c; sr = sr; cr = cr })) % 256 + min (n - d) 128))
     where
       at : Place
       at = pageAt work-job (record { stage = s; done = d; chunk = c; sr = sr; cr = cr })
 
-      go : (x y : Bool) → eqb (min (n - d) 128 % 4) 0 ≡ y → (z : Bool) → WorkAt limit (pick x (finish at Done) (pick y (pick z (finish at CrossesPageBoundary) (begin at stage.Enable)) (finish at NotAligned)) .place)
+      go : (x y : Bool) → eqb (min (n - d) 128 % 4) 0 ≡ y → (z : Bool) → WorkAt largest (pick x (finish at Done) (pick y (pick z (finish at CrossesPageBoundary) (begin at stage.Enable)) (finish at NotAligned)) .place)
       go true y e z = work-end
       go false false e z = work-end
       go false true e true = work-end
-      go false true e false = let k : min (n - d) 128 ≤ limit = omega (arith, least) in work-at is-enable k (eqb-true (min (n - d) 128 % 4) 0 e)
+      go false true e false = let k : min (n - d) 128 ≤ largest = omega (arith, least) in work-at is-enable k (eqb-true (min (n - d) 128 % 4) 0 e)
 
-  work-settled : (q : Sequel) (d c sr cr : ℕ) → c ≤ limit → c % 4 ≡ 0 → WorkAt limit (settledBy q work-job (record { stage = stage.Poll; done = d; chunk = c; sr = sr; cr = cr }) .place)
+  work-settled : (q : Sequel) (d c sr cr : ℕ) → c ≤ largest → c % 4 ≡ 0 → WorkAt largest (settledBy q work-job (record { stage = stage.Poll; done = d; chunk = c; sr = sr; cr = cr }) .place)
   work-settled Once d c sr cr h e = work-end
   work-settled Pages d c sr cr h e = next-page stage.Poll ((d + c) % 2 ^ 64) c sr cr
   work-settled Sectors d c sr cr h e = go (ltb ((d + 1) % 2 ^ 64) n)
@@ -290,11 +291,11 @@ module _ (sequel : Sequel) (a n log limit : ℕ) (least : 128 ≤ limit) where
       at : Place
       at = record { stage = stage.Poll; done = (d + 1) % 2 ^ 64; chunk = c; sr = sr; cr = cr }
 
-      go : (x : Bool) → WorkAt limit (pick x (begin at stage.Enable) (finish at Done) .place)
+      go : (x : Bool) → WorkAt largest (pick x (begin at stage.Enable) (finish at Done) .place)
       go true = work-at is-enable h e
       go false = work-end
 
-  work-turn : (p : Place) → WorkAt limit p → (r : ℕ) → WorkAt limit (turnOf work-job p r .place)
+  work-turn : (p : Place) → WorkAt largest p → (r : ℕ) → WorkAt largest (turnOf work-job p r .place)
   work-turn p (work-at is-enable h e) r = work-at is-program h e
   work-turn p (work-at is-program h e) r = work-at is-poll h e
   work-turn p (work-at {d = d} {c = c} {sr = sr} {cr = cr} is-poll h e) r = go (isSet 6 (topByte r)) (isSet 0 (topByte r))
@@ -302,7 +303,7 @@ module _ (sequel : Sequel) (a n log limit : ℕ) (least : 128 ≤ limit) where
       at : Place
       at = record { stage = stage.Poll; done = d; chunk = c; sr = sr; cr = cr }
 
-      go : (x y : Bool) → WorkAt limit (pick x (begin at stage.Clear) (pick y (begin at stage.Poll) (settled work-job at)) .place)
+      go : (x y : Bool) → WorkAt largest (pick x (begin at stage.Clear) (pick y (begin at stage.Poll) (settled work-job at)) .place)
       go true y = work-at is-clear h e
       go false true = work-at is-poll h e
       go false false = work-settled sequel d c sr cr h e
@@ -310,21 +311,21 @@ module _ (sequel : Sequel) (a n log limit : ℕ) (least : 128 ≤ limit) where
   work-turn p (work-at is-disable h e) r = work-end
   work-turn p work-end r = work-end
 
-  work-frames : Frames work-job limit (WorkAt limit)
+  work-frames : Frames work-job (largest + 4) (WorkAt largest)
   work-frames = record { most = work-most; fours = work-fours; turn = work-turn }
 
-  module _ (small : limit < 2 ^ 32) where
+  module _ (small : largest + 4 < 2 ^ 32) where
     abbrev WorkHeld : Op → Type 0
-    WorkHeld o = Held work-job limit small (WorkAt limit) work-frames o
+    WorkHeld o = Held work-job (largest + 4) small (WorkAt largest) work-frames o
 
-    work-never : (o₀ o : Op) → WorkHeld o₀ → Later o₀ o → Never limit o
-    work-never o₀ o k l = never-of limit o (held-bound work-job limit small (WorkAt limit) work-frames (held-later work-job limit small (WorkAt limit) work-frames k l))
+    work-never : (o₀ o : Op) → WorkHeld o₀ → Later o₀ o → Never (largest + 4) o
+    work-never o₀ o k l = never-of (largest + 4) o (held-bound work-job (largest + 4) small (WorkAt largest) work-frames (held-later work-job (largest + 4) small (WorkAt largest) work-frames k l))
 
     -- refused at the start
     work-over : (s : Status) → isGoing s ≡ false → WorkHeld (start.over work-job s)
-    work-over s e = over e (fresh-bound limit)
+    work-over s e = over e (fresh-bound (largest + 4))
 
-program-starts : (a n log : ℕ) (small : 240 < 2 ^ 32) (least : 128 ≤ 240) → WorkHeld Once a n log 240 least small (start.programOf a n log)
+program-starts : (a n log : ℕ) (small : 244 < 2 ^ 32) (least : 128 ≤ 240) → WorkHeld Once a n log 240 least small (start.programOf a n log)
 program-starts a n log small least = go (ltb 16777215 (a + n)) (ltb 240 n) refl (eqb (n % 4) 0) refl (ltb 256 (a % 256 + n))
   where
     go : (x₁ x₂ : Bool) → ltb 240 n ≡ x₂ → (x₃ : Bool) → eqb (n % 4) 0 ≡ x₃ → (x₄ : Bool)
@@ -338,25 +339,25 @@ program-starts a n log small least = go (ltb 16777215 (a + n)) (ltb 240 n) refl 
     go false false e₂ true e₃ true = work-over Once a n log 240 least small CrossesPageBoundary refl
     go false false e₂ true e₃ false = goes (work-at is-enable (ltb-false 240 n e₂) (eqb-true (n % 4) 0 e₃)) (fresh-sound _)
 
--- THEOREM. Of `program`, whatever its address and length, after every number of steps, whatever each is lent and handed: `read_index` is at most 240, at most 236 where a reply is about to be
+-- THEOREM. Of `program`, whatever its address and length, after every number of steps, whatever each is lent and handed: `read_index` is at most 244, at most 240 where a reply is about to be
 -- taken, and taking it adds 4, so that it never wraps.
-pub program-never-wraps : (a n log : ℕ) (o : Op) → Later (start.programOf a n log) o → Never 240 o
+pub program-never-wraps : (a n log : ℕ) (o : Op) → Later (start.programOf a n log) o → Never 244 o
 program-never-wraps a n log o l =
-    let small : 240 < 2 ^ 32 = omega arith in
+    let small : 244 < 2 ^ 32 = omega arith in
     let least : 128 ≤ 240 = omega arith in
     work-never Once a n log 240 least small (start.programOf a n log) o (program-starts a n log small least) l
 
-pages-starts : (a n log : ℕ) (small : 128 < 2 ^ 32) (least : 128 ≤ 128) → WorkHeld Pages a n log 128 least small (start.writePagesOf a n log)
+pages-starts : (a n log : ℕ) (small : 132 < 2 ^ 32) (least : 128 ≤ 128) → WorkHeld Pages a n log 128 least small (start.writePagesOf a n log)
 pages-starts a n log small least = go (ltb 16777215 (a + n))
   where
     go : (x : Bool) → WorkHeld Pages a n log 128 least small (start.pick x (start.over (start.pagingJob a n log) OutOfRange) (start.opened (start.pagingJob a n log) (nextPage (start.pagingJob a n log) (start.placeAt stage.Enable 0 0 0))))
     go true = work-over Pages a n log 128 least small OutOfRange refl
     go false = goes (next-page Pages a n log 128 least stage.Enable 0 0 0 0) (fresh-sound _)
 
--- of `write_pages` it is at most 128, a chunk's bytes
-pub pages-never-wraps : (a n log : ℕ) (o : Op) → Later (start.writePagesOf a n log) o → Never 128 o
+-- of `write_pages` it is at most 132: a chunk's bytes, and 4 for the reply to the command word
+pub pages-never-wraps : (a n log : ℕ) (o : Op) → Later (start.writePagesOf a n log) o → Never 132 o
 pages-never-wraps a n log o l =
-    let small : 128 < 2 ^ 32 = omega arith in
+    let small : 132 < 2 ^ 32 = omega arith in
     let least : 128 ≤ 128 = omega arith in
     work-never Pages a n log 128 least small (start.writePagesOf a n log) o (pages-starts a n log small least) l
 

@@ -73,9 +73,10 @@ wordsOf (a ∷ b ∷ []) = []
 wordsOf (a ∷ b ∷ c ∷ []) = []
 wordsOf (a ∷ b ∷ c ∷ d ∷ l) = wordOf (a ∷ b ∷ c ∷ d ∷ []) ∷ wordsOf l
 
--- "`program` writes the command word and n data words. It then takes n replies, each after two status reads in a row"
+-- "`program` writes the command word and n data words." It takes "n + 1 replies, one for empty data" (document 02, U2), "each after two
+-- status reads in a row"
 abbrev pub programming : ℕ → List ℕ → Transfer
-programming a bs = record { port = 0x1C; command = commandWord command.PageProgram a; further = wordsOf bs; replies = length bs / 4; twice = true }
+programming a bs = record { port = 0x1C; command = commandWord command.PageProgram a; further = wordsOf bs; replies = suc (length bs / 4); twice = true }
 
 abbrev pub zeros : ℕ → List ℕ
 zeros zero = []

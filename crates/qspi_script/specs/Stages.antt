@@ -37,9 +37,9 @@ readWords chunk dummy = (chunk + flagValue dummy + 3) / 4
 abbrev pub readFrame : ℕ → Bool → Frame
 readFrame chunk dummy = dataFrame (prefilled (readWords chunk dummy)) (readWords chunk dummy * 4 + 4)
 
--- "the command word and n data words. It then takes n replies"
+-- "the command word and n data words"; document 02, U2: "Take n + 1 replies, one for empty data"
 abbrev pub programFrame : ℕ → Frame
-programFrame chunk = dataFrame (prefilled (chunk / 4)) chunk
+programFrame chunk = dataFrame (prefilled (chunk / 4)) (chunk + 4)
 
 -- "the long form sends two zero words more and takes bytes 1 to 8 of three replies"
 abbrev pub longIdFrame : Frame

@@ -88,13 +88,16 @@ program-goes : (a : ℕ) (bs : List ℕ) (then : Script) → a + length bs ≤ 1
     → programThen a bs then ≡ working 6 ProgrammingErrorBitSet (programming a bs) then
 program-goes a bs then h g e p = rw (le-ltb 16777215 (a + length bs) h, le-ltb 240 (length bs) g, eq-eqb (length bs % 4) 0 e, le-ltb 256 (a % 256 + length bs) p)
 
--- a reply for each data word
-replies-of : (bs : List ℕ) → length bs % 4 ≡ 0 → length (wordsOf bs) ≡ length bs / 4
+-- a reply for each word that `program` sends, the command's too (document 02, U2)
+abbrev replies-to : List ℕ → List ℕ
+replies-to bs = 0 ∷ wordsOf bs
+
+replies-of : (bs : List ℕ) → length bs % 4 ≡ 0 → length (replies-to bs) ≡ suc (length bs / 4)
 replies-of bs e = omega (arith, length-words bs e)
 
 program-works : (a : ℕ) (bs : List ℕ) → a + length bs ≤ 16777215 → length bs ≤ 240 → length bs % 4 ≡ 0 → a % 256 + length bs ≤ 256 → Ends (program a bs) (Worked (programming a bs))
 program-works a bs h g e p =
-    let w = work-ends 6 ProgrammingErrorBitSet (programming a bs) (wordsOf bs) (omega arith) refl (replies-of bs e) in
+    let w = work-ends 6 ProgrammingErrorBitSet (programming a bs) (replies-to bs) (omega arith) refl (replies-of bs e) in
     subst (λ c. Ends c (Worked (programming a bs))) (sym (program-goes a bs (ends Done []) h g e p)) w
 
 -- ---- write_pages
@@ -132,7 +135,7 @@ module _ (a : ℕ) (bs : List ℕ) (s : Status) (range : a + length bs ≤ 16777
       let n : 0 + length one ≡ 128 = omega (arith, whole) in
       let e : length one % 4 ≡ 0 = omega (arith, whole) in
       let t = works-through Refused 6 ProgrammingErrorBitSet (programming a one) (counts (length one) (refused s)) 0 [] (omega arith) (counting (arrives (refl, n))) in
-      let p = works 6 ProgrammingErrorBitSet (programming a one) (counts (length one) (refused s)) 0 prompt prompt prompt 0 0 (wordsOf one) (replies-of one e) refl refl in
+      let p = works 6 ProgrammingErrorBitSet (programming a one) (counts (length one) (refused s)) 0 prompt prompt prompt 0 0 (replies-to one) (replies-of one e) refl refl in
       subst (Meets (gives-with (numberOf s) 128)) (sym is-first-only)
       (ends-by-log first-only _ _ s (counting-logs first-only _ s [] [] (0 + length one) p) given (λ room qs i. arrives-always 0x1C Refused refl first-only _ t room qs i .1))
 

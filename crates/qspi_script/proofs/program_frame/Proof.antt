@@ -1,4 +1,5 @@
 -- By what the functions called promise. Assumes nothing.
+use native.Mathlib.Omega.{arith}
 use borrow.Author.Needs.{needs}
 use Rattle.qspi_script.proofs.program_frame.Statement.{statement}
 use Rattle.qspi_script.proofs.program_frame.Tie as tie
@@ -12,6 +13,9 @@ prefill-requires : tie.Need-prefill-requires
 prefill-requires c κs = search needs
 
 -- src/lib.rt:230:5
+add-data-frame : tie.Need-add-data-frame
+add-data-frame c = omega arith
+
 data-frame-requires : tie.Need-data-frame-requires
 data-frame-requires c κs = search needs
 
@@ -20,4 +24,4 @@ returns : tie.Need-returns
 returns c = simp (c .data-frame .ensures, c .before .prefill .ensures)
 
 pub program-frame-spec : {M : Type 1} → statement M
-program-frame-spec = tie.close (tie.spec prefill-requires data-frame-requires returns)
+program-frame-spec = tie.close (tie.spec prefill-requires add-data-frame data-frame-requires returns)
