@@ -4,4 +4,5 @@ pub mod Sending
 pub mod Commands
 pub mod Shows
 pub mod OfRuns
+pub mod OfRows
 pub mod ReadsRun

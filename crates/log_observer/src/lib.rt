@@ -14,7 +14,8 @@ use zynq7000::qspi::Access;
 use zynq7000::qspi::Config;
 
 // The chunks in doubt: the first of them by its place in the flash, or none; how many they are, and
-// their bytes (both modulo 2^32). Of a run of `write_pages` there is never a second one.
+// their bytes (both modulo 2^32). Of a run of `write_pages` there is never a second one, nor of a row of
+// them while the flash reports no error.
 pub struct Doubt {
     pub there: bool,
     pub address: u32,

@@ -1,9 +1,9 @@
 -- One transfer against the controller, proved once for every transfer: what the controller holds at each phase, kept by each access of the
 -- driver and by each word that goes out. Assumes nothing.
 use mathlib.Core.Path.{_≡_, refl, ap, _∙_, sym}
-use mathlib.Core.Bool.{Bool, true, false, cond}
+use mathlib.Core.Bool.{Bool, true, false, cond, not, _&&_, true≢false}
 use mathlib.Core.List.{List, [], _∷_, _++_, map, append-assoc, append-nil, cons≢nil}
-use Prim.Native.Nat.{ℕ, zero, suc, _+_, _-_, _≤_, _<_}
+use Prim.Native.Nat.{ℕ, zero, suc, _+_, _≤_, _<_}
 use native.Mathlib.Omega.{arith}
 use lib.ListN.{length, length-append, length-map}
 use lib.Seq.{append-snoc}
@@ -14,7 +14,7 @@ use Rattle.qspi_transfer.specs.LowLevel.{chipSelectHigh, chipSelectLow, started
 use Rattle.qspi_transfer.specs.Wire.{waits}
 use Rattle.qspi_operation.specs.Machine.{Transfer, wantAt, Matches, m-read, m-write}
 use Rattle.power_cut.specs.Flash.{Flash, execute}
-use Rattle.power_cut.specs.Controller.{tx, registerAt, bytesOut, high, manual, Device, device, Shows, configured, afterWrite, afterRead, effect, someWait, GivenBy, Gives, AllOut}
+use Rattle.power_cut.specs.Controller.{tx, registerAt, bytesOut, high, manual, Device, device, Shows, configured, afterWrite, afterRead, effect, someWait, GivenBy, Gives, isHigh, raises, wordsLeft}
 use Rattle.qspi_calls.proofs.Phases.{words}
 use Rattle.power_cut.proofs.Driver.{Phase, draining, dropping, opening, lowering, switching, sending, starting, releasing, waiting, again, taking, closing, raising, leaving, midway, action, sendNext, takeNext, phaseAfter, takenAfter}
 use Rattle.power_cut.proofs.Levels.{high-put, high-clear, high-start, high-stored, starts-put, starts-stored, starts-high, starts-low, manual-high, manual-low, manual-start, manual-stored}
@@ -60,15 +60,11 @@ pub record Down (c : ℕ) : Type 0 where
   pub unstarted : isSet 16 c ≡ false
   pub by-hand : manual c ≡ true
 
--- the words of the transfer beyond the replies that it takes
-abbrev pub slack : Transfer → ℕ
-slack x = length (words x) - x .replies
-
--- after start: the bytes out and the words released make up the transfer; n replies are still to be taken, each from a word that is still to go
--- out or that waits; each reply that waits is a P
+-- after start: the bytes out and the words released make up the transfer; n replies are still to be taken, one from each word that is still to
+-- go out or that waits; each reply that waits is a P
 pub record Live (P : ℕ → Type 0) (width : ℕ) (x : Transfer) (n : ℕ) (t : List (List ℕ)) (w r : List ℕ) : Type 0 where
   pub all-bytes : w ++ join t ≡ flat width (words x)
-  pub to-come : length t + length r ≡ n + slack x
+  pub to-come : length t + length r ≡ n
   pub good : Every P r
   pub within : n ≤ x .replies
 
@@ -121,6 +117,9 @@ up-high c d = record { up = high-stored (chipSelectHigh c) ∙ high-put c; unsta
 
 -- ---- an access of the driver
 
+pub clash : {A : Type 0} {b : Bool} → b ≡ true → b ≡ false → A
+clash p q = absurd (true≢false (sym p ∙ q))
+
 module _ (P : ℕ → Type 0) (width : ℕ) (x : Transfer) (f : Flash) where
   after-drain : {taken : List ℕ} {c : ℕ} {w : List ℕ} (r : List ℕ) (b : Bool) → Up c → b ≡ someWait r → Held P width x (cond b dropping opening) taken f (device c [] [] w r f)
   after-drain [] b u e = rw e (held (c-open u))
@@ -150,39 +149,74 @@ module _ (P : ℕ → Type 0) (width : ℕ) (x : Transfer) (f : Flash) where
   after-take (suc n) u l = held (c-wait u (less l))
 
   -- every word is released, and none is out
-  all-live : x .replies ≤ length (words x) → Live P width x (x .replies) (map (bytesOut width) (words x)) [] []
-  all-live h = record { all-bytes = join-map width (words x); to-come = omega (arith, length-map (words x) (bytesOut width)); good = tt; within = omega arith }
+  all-live : x .replies ≡ length (words x) → Live P width x (x .replies) (map (bytesOut width) (words x)) [] []
+  all-live h = record { all-bytes = join-map width (words x); to-come = omega (arith, length-map (words x) (bytesOut width), h); good = tt; within = omega arith }
 
   after-start : {taken : List ℕ} {c : ℕ} (n : ℕ) → 0 < n → Down c → Live P width x n (map (bytesOut width) (words x)) [] []
       → Held P width x (takeNext n) taken f (device c (map (bytesOut width) (words x)) [] [] [] f)
   after-start zero h u l = absurd (omega arith)
   after-start (suc n) h u l = held (c-wait u l)
 
-  after-raise : {taken : List ℕ} (c : ℕ) (t : List (List ℕ)) (w r : List ℕ) → Down c → P (newest taken) → Live P width x 0 t w r → t ++ [] ≡ []
+  -- once every reply is taken no word is left
+  none-left : (t : List (List ℕ)) {w r : List ℕ} → Live P width x 0 t w r → t ++ [] ≡ []
+  none-left [] l = refl
+  none-left (b ∷ t) l = absurd (omega (arith, l .to-come))
+
+  after-raise : {taken : List ℕ} (c : ℕ) (t : List (List ℕ)) (w r : List ℕ) → Down c → P (newest taken) → Live P width x 0 t w r
       → Held P width x leaving taken (execute f (flat width (words x))) (device (clear 16 (chipSelectHigh c)) [] (t ++ []) [] r (execute f w))
-  after-raise c [] w r u y l e =
+  after-raise c [] w r u y l =
       let z : w ≡ flat width (words x) = sym (append-nil w) ∙ l .all-bytes in
       rw z (held (c-leave (up-high c u) y))
-  after-raise c (b ∷ t) w r u y l e = absurd (cons≢nil e)
+  after-raise c (b ∷ t) w r u y l = absurd (cons≢nil (none-left (b ∷ t) l))
 
-  pub accessed : {p : Phase} {taken : List ℕ} {c : ℕ} {t u : List (List ℕ)} {w r : List ℕ} {a : Access} → registerAt (x .port) ≡ tx width → 0 < x .replies → x .replies ≤ length (words x)
-      → Ctl P width x p taken c t u w r → Matches (wantAt (midway p) (action x p)) a → Gives (device c t u w r f) a → AllOut (device c t u w r f) a
+  pub accessed : {p : Phase} {taken : List ℕ} {c : ℕ} {t u : List (List ℕ)} {w r : List ℕ} {a : Access} → registerAt (x .port) ≡ tx width → x .replies ≡ length (words x)
+      → Ctl P width x p taken c t u w r → Matches (wantAt (midway p) (action x p)) a → Gives (device c t u w r f) a
       → Held P width x (phaseAfter x p (valueWord a)) (takenAfter p taken (valueWord a)) (flashAfter width x p f) (effect (device c t u w r f) a)
-  unfolding phaseAfter Gives GivenBy AllOut effect afterRead afterWrite configured registerAt
-  accessed {r = r} e h i (c-drain u) (m-read {v = v}) g o = after-drain r (waits v) u g
-  accessed e h i (c-drop u) m-read g o = held (c-drain u)
-  accessed e h i (c-open u) m-read g o = rw g (held (c-lower u))
-  accessed e h i (c-lower {c = c} u) m-write g o = rw (u .up, high-clear c, starts-low c, u .unstarted) (held (c-switch (down-low c u)))
-  accessed e h i (c-switch u) m-write g o = held (c-send u refl)
-  accessed e h i (c-send {v = v} {q = q} {l = l} u j) m-write g o = rw e (after-send v q l u j)
-  accessed e h i (c-start u) m-read g o = rw g (held (c-release u))
-  accessed e h i (c-release {c = c} u) m-write g o = rw (high-start c, u .down, starts-put c) (after-start (x .replies) h (down-start c u) (all-live i))
-  accessed {r = r} e h i (c-wait u l) (m-read {v = v}) g o = after-wait r (waits v) (x .twice) u l g
-  accessed e h i (c-again u l) (m-read {v = v}) g o = after-again (waits v) u l g
-  accessed e h i (c-take {n = n} u l) m-read g o = rw g (after-take n u l)
-  accessed e h i (c-close u y l) m-read g o = rw g (held (c-raise u y l))
-  accessed e h i (c-raise {c = c} {t = t} {w = w} {r = r} u y l) m-write g o = rw (u .down, high-put c, starts-high c, u .unstarted) (after-raise c t w r u y l (o (u .down) (high-put c)))
-  accessed e h i (c-leave u y) m-write g o = held (c-leave u y)
+  unfolding phaseAfter Gives GivenBy effect afterRead afterWrite configured registerAt
+  accessed {r = r} e i (c-drain u) (m-read {v = v}) g = after-drain r (waits v) u g
+  accessed e i (c-drop u) m-read g = held (c-drain u)
+  accessed e i (c-open u) m-read g = rw g (held (c-lower u))
+  accessed e i (c-lower {c = c} u) m-write g = rw (u .up, high-clear c, starts-low c, u .unstarted) (held (c-switch (down-low c u)))
+  accessed e i (c-switch u) m-write g = held (c-send u refl)
+  accessed e i (c-send {v = v} {q = q} {l = l} u j) m-write g = rw e (after-send v q l u j)
+  accessed e i (c-start u) m-read g = rw g (held (c-release u))
+  accessed e i (c-release {c = c} u) m-write g = rw (high-start c, u .down, starts-put c) (after-start (x .replies) (omega (arith, i)) (down-start c u) (all-live i))
+  accessed {r = r} e i (c-wait u l) (m-read {v = v}) g = after-wait r (waits v) (x .twice) u l g
+  accessed e i (c-again u l) (m-read {v = v}) g = after-again (waits v) u l g
+  accessed e i (c-take {n = n} u l) m-read g = rw g (after-take n u l)
+  accessed e i (c-close u y l) m-read g = rw g (held (c-raise u y l))
+  accessed e i (c-raise {c = c} {t = t} {w = w} {r = r} u y l) m-write g = rw (u .down, high-put c, starts-high c, u .unstarted) (after-raise c t w r u y l)
+  accessed e i (c-leave u y) m-write g = held (c-leave u y)
+
+  -- ---- the rising chip select
+
+  -- an access that finds chip select low and leaves it high finds no word left
+  risen : {p : Phase} {taken : List ℕ} {c : ℕ} {t u : List (List ℕ)} {w r : List ℕ} {a : Access} → registerAt (x .port) ≡ tx width → Ctl P width x p taken c t u w r → Matches (wantAt (midway p) (action x p)) a
+      → high c ≡ false → isHigh (effect (device c t u w r f) a) ≡ true → t ++ u ≡ []
+  unfolding effect afterRead afterWrite configured registerAt
+  risen e (c-drain u) m-read d h = clash h d
+  risen e (c-drop u) m-read d h = clash h d
+  risen e (c-open u) m-read d h = clash h d
+  risen e (c-lower u) m-write d h = clash (u .up) d
+  risen e (c-switch u) m-write d h = clash h d
+  risen e (c-send u j) m-write d h = clash (rw e at h) d
+  risen e (c-start u) m-read d h = clash h d
+  risen e (c-release {c = c} u) m-write d h = clash (rw (high-start c, u .down) at h) (down-start c u .down)
+  risen e (c-wait u l) m-read d h = clash h d
+  risen e (c-again u l) m-read d h = clash h d
+  risen e (c-take u l) m-read d h = clash h d
+  risen e (c-close u y l) m-read d h = clash h d
+  risen e (c-raise {t = t} u y l) m-write d h = none-left t l
+  risen e (c-leave u y) m-write d h = clash (u .up) d
+
+  both : (a b : Bool) → not a && b ≡ true → (a ≡ false) × (b ≡ true)
+  both false true e = (refl, refl)
+  both false false e = clash e refl
+  both true b e = clash e refl
+
+  pub none-at-rise : {p : Phase} {taken : List ℕ} {d : Device} {a : Access} → registerAt (x .port) ≡ tx width → Held P width x p taken f d → Matches (wantAt (midway p) (action x p)) a → raises d a ≡ true → wordsLeft d ≡ []
+  unfolding raises
+  none-at-rise {a = a} e (held {c} {t} {u} {w} {r} k) m h = let y = both (high c) (isHigh (effect (device c t u w r f) a)) h in risen e k m (y .0) (y .1)
 
   -- ---- a word goes out
 

@@ -4,17 +4,18 @@ use Prim.Native.Nat.{ℕ, _/_, _%_, _^_}
 use mathlib.Core.Path.{_≡_, refl, sym, _∙_}
 use mathlib.Core.Bool.{Bool, true, false, _&&_, true≢false}
 use mathlib.Core.Option.{none}
-use mathlib.Core.List.{List, [], _∷_, _++_}
+use mathlib.Core.List.{List, [], _∷_, _++_, cons≢nil}
 use mathlib.Core.Logic.{_↔_}
 use native.Mathlib.Omega.{arith}
 use lib.Dec.{eqb}
 use lib.ListN.{take}
 use borrow.Author.Tests.{eqb-true, eq-eqb}
 use Rattle.zynq7000.specs.Bits.{isSet, clear}
+use Rattle.zynq7000.specs.declared.qspi.Access.{Access}
 use Rattle.zynq7000.specs.declared.qspi.Access.the-variants as access
 use Rattle.zedboard_bsp.specs.Words.{topByte}
 use Rattle.power_cut.specs.Flash.{Array, Flash, flash, busy, execute, Settles}
-use Rattle.power_cut.specs.Controller.{registerAt, bytesOut, high, showsBusy, showsProgramError, showsEraseError, isStatusRead, device, Shows, Silent, out, unasked, idle, configured, afterWrite, afterRead, effect, GivenBy, Gives, Rests, rests}
+use Rattle.power_cut.specs.Controller.{registerAt, bytesOut, high, showsBusy, showsProgramError, showsEraseError, isStatusRead, Device, device, isHigh, wordsLeft, raises, Shows, Silent, out, unasked, idle, configured, afterWrite, afterRead, effect, GivenBy, Gives, Rests, rests}
 
 -- ---- "TX data (four bytes) 1C, .. TX data of one, two, three bytes 80, 84, 88"
 
@@ -210,3 +211,15 @@ module _ (c : ℕ) (t u : List (List ℕ)) (w r : List ℕ) (f : Flash) where
 -- "At the start of a run bits 10, 14 and 15 are set, and no TX word waits or is going out": whatever waits in RX and whether or not the latch is set
 pub rests-whatever : (m : Array) (c : ℕ) (w r : List ℕ) (latch : Bool) → isSet 10 c ≡ true → isSet 14 c ≡ true → isSet 15 c ≡ true → isSet 16 c ≡ false → Rests m (device c [] [] w r (flash m latch none))
 rests-whatever m c w r latch u₁₀ u₁₄ u₁₅ u₁₆ = rests u₁₀ u₁₄ u₁₅ u₁₆
+
+-- ---- "all words have gone out before chip select rises" (demand 3)
+
+-- none waits and none is going out
+pub none-left : (c : ℕ) (t u : List (List ℕ)) (w r : List ℕ) (f : Flash) → wordsLeft (device c t u w r f) ≡ [] → (t ≡ []) × (u ≡ [])
+none-left c [] u w r f e = (refl, e)
+none-left c (b ∷ t) u w r f e = absurd (cons≢nil e)
+
+-- it rises wherever it is low before the access and high after it
+pub rises-there : (d : Device) (a : Access) → isHigh d ≡ false → isHigh (effect d a) ≡ true → raises d a ≡ true
+unfolding raises
+rises-there d a e h = rw (e, h)

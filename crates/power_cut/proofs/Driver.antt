@@ -139,49 +139,57 @@ isLast closing = false
 isLast (raising c) = false
 isLast leaving = true
 
-abbrev pub inTransfer : Transfer → Phase → List ℕ → (List ℕ → Script) → ℕ → State
-inTransfer x p taken k n = going (midway p) (action x p) (actions x p) taken machine.none k [] n
+-- with what the replies bring, what they decide, the bytes brought before and the count
+abbrev pub inTransferOf : Transfer → Phase → List ℕ → (List ℕ → List ℕ) → (List ℕ → Script) → List ℕ → ℕ → State
+inTransferOf x p taken brings k bs n = going (midway p) (action x p) (actions x p) taken brings k bs n
 
-module _ (x : Transfer) (k : List ℕ → Script) (n : ℕ) where
-  drained : (b : Bool) (taken : List ℕ) → moves (cond b (stays machine.full) machine.over) drain (machine.opening x) taken machine.none k [] n ≡ inTransfer x (cond b dropping opening) taken k n
+-- of a transfer that brings nothing, as all of `write_pages`
+abbrev pub inTransfer : Transfer → Phase → List ℕ → (List ℕ → Script) → ℕ → State
+inTransfer x p taken k n = inTransferOf x p taken machine.none k [] n
+
+module _ (x : Transfer) (brings : List ℕ → List ℕ) (k : List ℕ → Script) (bs : List ℕ) (n : ℕ) where
+  drained : (b : Bool) (taken : List ℕ) → moves (cond b (stays machine.full) machine.over) drain (machine.opening x) taken brings k bs n ≡ inTransferOf x (cond b dropping opening) taken brings k bs n
   drained true taken = refl
   drained false taken = refl
 
-  sent : (q l taken : List ℕ) → machine.proceed (map (write (x .port)) l ++ replying x) taken machine.none k [] n ≡ inTransfer x (sendNext q l) taken k n
+  sent : (q l taken : List ℕ) → machine.proceed (map (write (x .port)) l ++ replying x) taken brings k bs n ≡ inTransferOf x (sendNext q l) taken brings k bs n
   sent q [] taken = refl
   sent q (w ∷ l) taken = refl
 
-  toTake : (m : ℕ) (taken : List ℕ) → machine.proceed (replicate m (reply (x .twice)) ++ machine.closing) taken machine.none k [] n ≡ inTransfer x (takeNext m) taken k n
+  toTake : (m : ℕ) (taken : List ℕ) → machine.proceed (replicate m (reply (x .twice)) ++ machine.closing) taken brings k bs n ≡ inTransferOf x (takeNext m) taken brings k bs n
   toTake zero taken = refl
   toTake (suc m) taken = refl
 
-  polled : (b t : Bool) (m : ℕ) (taken : List ℕ) → moves (cond b (stays (cond t machine.again ready)) (stays first)) (reply (x .twice)) (replicate m (reply (x .twice)) ++ machine.closing) taken machine.none k [] n
-      ≡ inTransfer x (cond b (cond t (again m) (taking m)) (waiting m)) taken k n
+  polled : (b t : Bool) (m : ℕ) (taken : List ℕ) → moves (cond b (stays (cond t machine.again ready)) (stays first)) (reply (x .twice)) (replicate m (reply (x .twice)) ++ machine.closing) taken brings k bs n
+      ≡ inTransferOf x (cond b (cond t (again m) (taking m)) (waiting m)) taken brings k bs n
   polled true true m taken = refl
   polled true false m taken = refl
   polled false t m taken = refl
 
-  polledAgain : (b : Bool) (m : ℕ) (taken : List ℕ) → moves (cond b (stays ready) (stays first)) (reply (x .twice)) (replicate m (reply (x .twice)) ++ machine.closing) taken machine.none k [] n
-      ≡ inTransfer x (cond b (taking m) (waiting m)) taken k n
+  polledAgain : (b : Bool) (m : ℕ) (taken : List ℕ) → moves (cond b (stays ready) (stays first)) (reply (x .twice)) (replicate m (reply (x .twice)) ++ machine.closing) taken brings k bs n
+      ≡ inTransferOf x (cond b (taking m) (waiting m)) taken brings k bs n
   polledAgain true m taken = refl
   polledAgain false m taken = refl
 
-  pub transfer-next : (p : Phase) (taken : List ℕ) (v : ℕ) → isLast p ≡ false → next (inTransfer x p taken k n) v ≡ inTransfer x (phaseAfter x p v) (takenAfter p taken v) k n
+  pub transfer-next-of : (p : Phase) (taken : List ℕ) (v : ℕ) → isLast p ≡ false → next (inTransferOf x p taken brings k bs n) v ≡ inTransferOf x (phaseAfter x p v) (takenAfter p taken v) brings k bs n
   unfolding phaseAfter
-  transfer-next draining taken v e = drained (waits v) taken
-  transfer-next dropping taken v e = refl
-  transfer-next opening taken v e = refl
-  transfer-next (lowering c) taken v e = refl
-  transfer-next switching taken v e = refl
-  transfer-next (sending q w l) taken v e = sent (q ++ w ∷ []) l taken
-  transfer-next starting taken v e = refl
-  transfer-next (releasing c) taken v e = toTake (x .replies) taken
-  transfer-next (waiting m) taken v e = polled (waits v) (x .twice) m taken
-  transfer-next (again m) taken v e = polledAgain (waits v) m taken
-  transfer-next (taking m) taken v e = toTake m (v ∷ taken)
-  transfer-next closing taken v e = refl
-  transfer-next (raising c) taken v e = refl
-  transfer-next leaving taken v e = absurd (true≢false e)
+  transfer-next-of draining taken v e = drained (waits v) taken
+  transfer-next-of dropping taken v e = refl
+  transfer-next-of opening taken v e = refl
+  transfer-next-of (lowering c) taken v e = refl
+  transfer-next-of switching taken v e = refl
+  transfer-next-of (sending q w l) taken v e = sent (q ++ w ∷ []) l taken
+  transfer-next-of starting taken v e = refl
+  transfer-next-of (releasing c) taken v e = toTake (x .replies) taken
+  transfer-next-of (waiting m) taken v e = polled (waits v) (x .twice) m taken
+  transfer-next-of (again m) taken v e = polledAgain (waits v) m taken
+  transfer-next-of (taking m) taken v e = toTake m (v ∷ taken)
+  transfer-next-of closing taken v e = refl
+  transfer-next-of (raising c) taken v e = refl
+  transfer-next-of leaving taken v e = absurd (true≢false e)
+
+pub transfer-next : (x : Transfer) (k : List ℕ → Script) (n : ℕ) (p : Phase) (taken : List ℕ) (v : ℕ) → isLast p ≡ false → next (inTransfer x p taken k n) v ≡ inTransfer x (phaseAfter x p v) (takenAfter p taken v) k n
+transfer-next x k n = transfer-next-of x machine.none k [] n
 
 -- ---- a chunk
 
@@ -220,14 +228,25 @@ endingStatus (refuses a) = a
 
 -- ---- a call
 
+-- what is behind it: the chunks done
+pub record Past : Type 0 where
+  pub chunks : List Chunk
+
+abbrev pub outset : Past
+outset = record { chunks = [] }
+
+-- one more is done
+abbrev pub joined : Past → Chunk → Past
+joined k c = record { chunks = k .chunks ++ c ∷ [] }
+
 pub data Driver : Type 0 where
-  -- stage, phase, replies taken of the transfer (the newest first), chunk at hand, chunks left, chunks done
-  at : Stage → Phase → List ℕ → Chunk → List Chunk → List Chunk → Driver
-  over : Ending → List Chunk → List Chunk → Driver  -- chunks left, chunks done
+  -- stage, phase, replies taken of the transfer (the newest first), chunk at hand, chunks left, what is behind
+  at : Stage → Phase → List ℕ → Chunk → List Chunk → Past → Driver
+  over : Ending → List Chunk → Past → Driver  -- chunks left, what is behind
 
 abbrev pub stateOf : Driver → State
-stateOf (at s p taken c l k) = inTransfer (transferOf s c) p taken (thenOf s c l) (total k)
-stateOf (over e l k) = ended (endingStatus e) [] [] (total k)
+stateOf (at s p taken c l k) = inTransfer (transferOf s c) p taken (thenOf s c l) (total (k .chunks))
+stateOf (over e l k) = ended (endingStatus e) [] [] (total (k .chunks))
 
 -- the tests of `program`, in its order
 pub data Verdict : Type 0 where
@@ -244,22 +263,22 @@ judge false false true false = accepts
 unfoldable pub verdictOn : Chunk → Verdict
 verdictOn c = judge (ltb 16777215 (c .address + length (c .bytes))) (ltb 240 (length (c .bytes))) (eqb (length (c .bytes) % 4) 0) (ltb 256 (c .address % 256 + length (c .bytes)))
 
-abbrev pub startOn : Verdict → Chunk → List Chunk → List Chunk → Driver
+abbrev pub startOn : Verdict → Chunk → List Chunk → Past → Driver
 startOn accepts c l k = at enables draining [] c l k
 startOn (refusesWith a) c l k = over (refuses a) (c ∷ l) k
 
-unfoldable pub startNext : List Chunk → List Chunk → Driver
+unfoldable pub startNext : List Chunk → Past → Driver
 unfolding verdictOn
 startNext [] k = over succeeded [] k
 startNext (c ∷ l) k = startOn (verdictOn c) c l k
 
-unfoldable pub settled : Bool → Bool → Chunk → List Chunk → List Chunk → Driver
+unfoldable pub settled : Bool → Bool → Chunk → List Chunk → Past → Driver
 unfolding startNext
 settled true b c l k = at clears draining [] c l k
 settled false true c l k = at polls draining [] c l k
-settled false false c l k = startNext l (k ++ c ∷ [])
+settled false false c l k = startNext l (joined k c)
 
-unfoldable pub stageAfter : Stage → List ℕ → Chunk → List Chunk → List Chunk → Driver
+unfoldable pub stageAfter : Stage → List ℕ → Chunk → List Chunk → Past → Driver
 unfolding settled
 stageAfter enables taken c l k = at programs draining [] c l k
 stageAfter programs taken c l k = at polls draining [] c l k
@@ -274,12 +293,12 @@ driverAfter (over e l k) v = over e l k
 
 unfoldable pub driverStart : ℕ → List ℕ → Driver
 unfolding startNext
-driverStart a bs = cond (ltb 16777215 (a + length bs)) (over (refuses OutOfRange) (chunks a bs) []) (startNext (chunks a bs) [])
+driverStart a bs = cond (ltb 16777215 (a + length bs)) (over (refuses OutOfRange) (chunks a bs) outset) (startNext (chunks a bs) outset)
 
 -- ---- they are the states of the list machine
 
-start-by : (b₁ b₃ b₄ b₅ : Bool) (c : Chunk) (l k : List Chunk)
-    → begin (onward b₁ (refused OutOfRange) (onward b₃ (refused DataTooLarge) (onward b₄ (onward b₅ (refused CrossesPageBoundary) (working 6 ProgrammingErrorBitSet (programming (c .address) (c .bytes)) (rest c l))) (refused NotAligned)))) [] (total k)
+start-by : (b₁ b₃ b₄ b₅ : Bool) (c : Chunk) (l : List Chunk) (k : Past)
+    → begin (onward b₁ (refused OutOfRange) (onward b₃ (refused DataTooLarge) (onward b₄ (onward b₅ (refused CrossesPageBoundary) (working 6 ProgrammingErrorBitSet (programming (c .address) (c .bytes)) (rest c l))) (refused NotAligned)))) [] (total (k .chunks))
     ≡ stateOf (startOn (judge b₁ b₃ b₄ b₅) c l k)
 start-by true b₃ b₄ b₅ c l k = refl
 start-by false true b₄ b₅ c l k = refl
@@ -287,7 +306,7 @@ start-by false false false b₅ c l k = refl
 start-by false false true true c l k = refl
 start-by false false true false c l k = refl
 
-pub begin-next : (l k : List Chunk) → begin (pages l) [] (total k) ≡ stateOf (startNext l k)
+pub begin-next : (l : List Chunk) (k : Past) → begin (pages l) [] (total (k .chunks)) ≡ stateOf (startNext l k)
 unfolding startNext verdictOn
 begin-next [] k = refl
 begin-next (c ∷ l) k = start-by (ltb 16777215 (c .address + length (c .bytes))) (ltb 240 (length (c .bytes))) (eqb (length (c .bytes) % 4) 0) (ltb 256 (c .address % 256 + length (c .bytes))) c l k
@@ -302,14 +321,14 @@ unfolding total
 total-append [] l = omega arith
 total-append (c ∷ k) l = omega (arith, total-append k l)
 
-begin-settled : (e b : Bool) (c : Chunk) (l k : List Chunk)
-    → begin (onward (not e && b) (settle c l) (onward e (failing ProgrammingErrorBitSet) (rest c l))) [] (total k) ≡ stateOf (settled e b c l k)
+begin-settled : (e b : Bool) (c : Chunk) (l : List Chunk) (k : Past)
+    → begin (onward (not e && b) (settle c l) (onward e (failing ProgrammingErrorBitSet) (rest c l))) [] (total (k .chunks)) ≡ stateOf (settled e b c l k)
 unfolding settled
 begin-settled true b c l k = refl
 begin-settled false true c l k = refl
-begin-settled false false c l k = ap (begin (pages l) []) (sym (total-snoc k c)) ∙ begin-next l (k ++ c ∷ [])
+begin-settled false false c l k = ap (begin (pages l) []) (sym (total-snoc (k .chunks) c)) ∙ begin-next l (joined k c)
 
-pub begin-stage : (s : Stage) (taken : List ℕ) (c : Chunk) (l k : List Chunk) → begin (thenOf s c l (reverse taken)) [] (total k) ≡ stateOf (stageAfter s taken c l k)
+pub begin-stage : (s : Stage) (taken : List ℕ) (c : Chunk) (l : List Chunk) (k : Past) → begin (thenOf s c l (reverse taken)) [] (total (k .chunks)) ≡ stateOf (stageAfter s taken c l k)
 unfolding stageAfter
 begin-stage enables taken c l k = refl
 begin-stage programs taken c l k = refl
@@ -317,21 +336,21 @@ begin-stage polls taken c l k = begin-settled (isSet 6 (top (reverse taken))) (i
 begin-stage clears taken c l k = refl
 begin-stage disables taken c l k = refl
 
-next-at : (s : Stage) (p : Phase) (taken : List ℕ) (c : Chunk) (l k : List Chunk) (v : ℕ) → next (stateOf (at s p taken c l k)) v ≡ stateOf (driverAfter (at s p taken c l k) v)
+next-at : (s : Stage) (p : Phase) (taken : List ℕ) (c : Chunk) (l : List Chunk) (k : Past) (v : ℕ) → next (stateOf (at s p taken c l k)) v ≡ stateOf (driverAfter (at s p taken c l k) v)
 unfolding driverAfter
-next-at s draining taken c l k v = transfer-next (transferOf s c) (thenOf s c l) (total k) draining taken v refl
-next-at s dropping taken c l k v = transfer-next (transferOf s c) (thenOf s c l) (total k) dropping taken v refl
-next-at s opening taken c l k v = transfer-next (transferOf s c) (thenOf s c l) (total k) opening taken v refl
-next-at s (lowering w) taken c l k v = transfer-next (transferOf s c) (thenOf s c l) (total k) (lowering w) taken v refl
-next-at s switching taken c l k v = transfer-next (transferOf s c) (thenOf s c l) (total k) switching taken v refl
-next-at s (sending q w t) taken c l k v = transfer-next (transferOf s c) (thenOf s c l) (total k) (sending q w t) taken v refl
-next-at s starting taken c l k v = transfer-next (transferOf s c) (thenOf s c l) (total k) starting taken v refl
-next-at s (releasing w) taken c l k v = transfer-next (transferOf s c) (thenOf s c l) (total k) (releasing w) taken v refl
-next-at s (waiting m) taken c l k v = transfer-next (transferOf s c) (thenOf s c l) (total k) (waiting m) taken v refl
-next-at s (again m) taken c l k v = transfer-next (transferOf s c) (thenOf s c l) (total k) (again m) taken v refl
-next-at s (taking m) taken c l k v = transfer-next (transferOf s c) (thenOf s c l) (total k) (taking m) taken v refl
-next-at s closing taken c l k v = transfer-next (transferOf s c) (thenOf s c l) (total k) closing taken v refl
-next-at s (raising w) taken c l k v = transfer-next (transferOf s c) (thenOf s c l) (total k) (raising w) taken v refl
+next-at s draining taken c l k v = transfer-next (transferOf s c) (thenOf s c l) (total (k .chunks)) draining taken v refl
+next-at s dropping taken c l k v = transfer-next (transferOf s c) (thenOf s c l) (total (k .chunks)) dropping taken v refl
+next-at s opening taken c l k v = transfer-next (transferOf s c) (thenOf s c l) (total (k .chunks)) opening taken v refl
+next-at s (lowering w) taken c l k v = transfer-next (transferOf s c) (thenOf s c l) (total (k .chunks)) (lowering w) taken v refl
+next-at s switching taken c l k v = transfer-next (transferOf s c) (thenOf s c l) (total (k .chunks)) switching taken v refl
+next-at s (sending q w t) taken c l k v = transfer-next (transferOf s c) (thenOf s c l) (total (k .chunks)) (sending q w t) taken v refl
+next-at s starting taken c l k v = transfer-next (transferOf s c) (thenOf s c l) (total (k .chunks)) starting taken v refl
+next-at s (releasing w) taken c l k v = transfer-next (transferOf s c) (thenOf s c l) (total (k .chunks)) (releasing w) taken v refl
+next-at s (waiting m) taken c l k v = transfer-next (transferOf s c) (thenOf s c l) (total (k .chunks)) (waiting m) taken v refl
+next-at s (again m) taken c l k v = transfer-next (transferOf s c) (thenOf s c l) (total (k .chunks)) (again m) taken v refl
+next-at s (taking m) taken c l k v = transfer-next (transferOf s c) (thenOf s c l) (total (k .chunks)) (taking m) taken v refl
+next-at s closing taken c l k v = transfer-next (transferOf s c) (thenOf s c l) (total (k .chunks)) closing taken v refl
+next-at s (raising w) taken c l k v = transfer-next (transferOf s c) (thenOf s c l) (total (k .chunks)) (raising w) taken v refl
 next-at s leaving taken c l k v = begin-stage s taken c l k
 
 pub next-is : (d : Driver) (v : ℕ) → next (stateOf d) v ≡ stateOf (driverAfter d v)
@@ -343,6 +362,6 @@ pub start-is : (a : ℕ) (bs : List ℕ) → begin (writePages a bs) [] 0 ≡ st
 unfolding driverStart total
 start-is a bs = go (ltb 16777215 (a + length bs))
   where
-    go : (b : Bool) → begin (onward b (refused OutOfRange) (pages (chunks a bs))) [] 0 ≡ stateOf (cond b (over (refuses OutOfRange) (chunks a bs) []) (startNext (chunks a bs) []))
+    go : (b : Bool) → begin (onward b (refused OutOfRange) (pages (chunks a bs))) [] 0 ≡ stateOf (cond b (over (refuses OutOfRange) (chunks a bs) outset) (startNext (chunks a bs) outset))
     go true = refl
-    go false = begin-next (chunks a bs) []
+    go false = begin-next (chunks a bs) outset

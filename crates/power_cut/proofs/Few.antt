@@ -13,7 +13,7 @@ use Rattle.qspi_calls.specs.Calls.{writePages}
 use Rattle.qspi_calls.proofs.WireOrder.{AllBytes}
 use Rattle.power_cut.specs.Observer.{Observed, observed}
 use Rattle.power_cut.specs.Statement.{total}
-use Rattle.power_cut.proofs.Driver.{Stage, enables, programs, polls, clears, disables, Ending, succeeded, failed, refuses, Driver, at, over, driverStart, total-append}
+use Rattle.power_cut.proofs.Driver.{Stage, enables, programs, polls, clears, disables, Ending, succeeded, failed, refuses, Past, Driver, at, over, driverStart, total-append}
 use Rattle.power_cut.proofs.Fits.{AllFit, Over, Good, good-driver}
 use Rattle.power_cut.proofs.Watch.{risenAt, doubtAt, firstOf, doubtEnd, view}
 use Rattle.power_cut.proofs.Lands.{chunks-total}
@@ -42,7 +42,7 @@ end-most succeeded l = omega arith
 end-most failed l = first-most l
 end-most (refuses a) l = omega arith
 
-over-good : (whole : List Chunk) (a : Ending) (l k : List Chunk) → Good whole (over a l k) → Over whole a l k
+over-good : (whole : List Chunk) (a : Ending) (l : List Chunk) (k : Past) → Good whole (over a l k) → Over whole a l k
 over-good whole succeeded l k g = g .0
 over-good whole failed l k g = g
 over-good whole (refuses a) l k g = g .0
@@ -50,11 +50,11 @@ over-good whole (refuses a) l k g = g .0
 view-most : (whole : List Chunk) (d : Driver) (h : Bool) → Good whole d → shownBytes (view [] d h) ≤ total whole
 unfolding total
 view-most whole (at s p taken c l k) h g =
-    let e : total (k ++ c ∷ l) ≡ total whole = ap total (g .parts) in
-    omega (arith, e, total-append k (c ∷ l), doubt-most s (risenAt p h) c)
+    let e : total (k .chunks ++ c ∷ l) ≡ total whole = ap total (g .parts) in
+    omega (arith, e, total-append (k .chunks) (c ∷ l), doubt-most s (risenAt p h) c)
 view-most whole (over a l k) h g =
-    let e : total (k ++ l) ≡ total whole = ap total (over-good whole a l k g .parts) in
-    omega (arith, e, total-append k l, end-most a l)
+    let e : total (k .chunks ++ l) ≡ total whole = ap total (over-good whole a l k g .parts) in
+    omega (arith, e, total-append (k .chunks) l, end-most a l)
 
 -- THEOREM. At every cut point.
 pub shown-few : (a : ℕ) (bs : List ℕ) → AllBytes bs → (l : List Access) → Makes (begin (writePages a bs) [] 0) l → total (observed l .finished) + total (observed l .doubt) ≤ length bs
@@ -70,8 +70,8 @@ fit-count [] h = omega arith
 fit-count (c ∷ k) h = omega (arith, fit-count k (h .1), h .0 .sound .some-byte)
 
 past-of : (whole : List Chunk) (d : Driver) (h : Bool) → Good whole d → length (view [] d h .finished) ≤ total (view [] d h .finished)
-past-of whole (at s p taken c l k) h g = fit-count k (g .past)
-past-of whole (over a l k) h g = fit-count k (over-good whole a l k g .past)
+past-of whole (at s p taken c l k) h g = fit-count (k .chunks) (g .past)
+past-of whole (over a l k) h g = fit-count (k .chunks) (over-good whole a l k g .past)
 
 pub finished-few : (a : ℕ) (bs : List ℕ) → AllBytes bs → (l : List Access) → Makes (begin (writePages a bs) [] 0) l → length (observed l .finished) ≤ total (observed l .finished)
 finished-few a bs h l f =

@@ -18,7 +18,7 @@ use Rattle.qspi_operation.specs.Machine.{Transfer}
 use Rattle.qspi_calls.specs.Calls.{top}
 use Rattle.qspi_calls.proofs.WireOrder.{AllBytes}
 use Rattle.qspi_calls.proofs.Phases.{words}
-use Rattle.power_cut.proofs.Driver.{Phase, draining, dropping, opening, lowering, switching, sending, starting, releasing, waiting, again, taking, closing, raising, leaving, sendNext, takeNext, phaseAfter, takenAfter, isLast, Stage, enables, programs, polls, clears, disables, transferOf, Ending, succeeded, failed, refuses, Driver, at, over, Verdict, accepts, refusesWith, judge, verdictOn, startOn, startNext, settled, stageAfter, driverAfter, driverStart}
+use Rattle.power_cut.proofs.Driver.{Phase, draining, dropping, opening, lowering, switching, sending, starting, releasing, waiting, again, taking, closing, raising, leaving, sendNext, takeNext, phaseAfter, takenAfter, isLast, Stage, enables, programs, polls, clears, disables, transferOf, Ending, succeeded, failed, refuses, Past, outset, joined, Driver, at, over, Verdict, accepts, refusesWith, judge, verdictOn, startOn, startNext, settled, stageAfter, driverAfter, driverStart}
 
 -- ---- chunks
 
@@ -190,17 +190,17 @@ module _ (x : Transfer) where
 -- ---- a call
 
 module _ (whole : List Chunk) where
-  pub record Going (s : Stage) (p : Phase) (taken : List ℕ) (c : Chunk) (l k : List Chunk) : Type 0 where
+  pub record Going (s : Stage) (p : Phase) (taken : List ℕ) (c : Chunk) (l : List Chunk) (k : Past) : Type 0 where
     pub fits : Fit c
     pub others : AllSound l
     pub split : Split (transferOf s c) p
     pub count : Taken (transferOf s c) p taken
-    pub parts : k ++ c ∷ l ≡ whole
-    pub past : AllFit k
+    pub parts : k .chunks ++ c ∷ l ≡ whole
+    pub past : AllFit (k .chunks)
 
-  pub record Over (a : Ending) (l k : List Chunk) : Type 0 where
-    pub parts : k ++ l ≡ whole
-    pub past : AllFit k
+  pub record Over (a : Ending) (l : List Chunk) (k : Past) : Type 0 where
+    pub parts : k .chunks ++ l ≡ whole
+    pub past : AllFit (k .chunks)
 
   abbrev pub Good : Driver → Type 0
   Good (at s p taken c l k) = Going s p taken c l k
@@ -208,7 +208,7 @@ module _ (whole : List Chunk) where
   Good (over failed l k) = Over failed l k
   Good (over (refuses a) l k) = Over (refuses a) l k × (a ≡ Done → ⊥)
 
-  first-of : {s : Stage} {c : Chunk} {l k : List Chunk} → Fit c → AllSound l → k ++ c ∷ l ≡ whole → AllFit k → Good (at s draining [] c l k)
+  first-of : {s : Stage} {c : Chunk} {l : List Chunk} {k : Past} → Fit c → AllSound l → k .chunks ++ c ∷ l ≡ whole → AllFit (k .chunks) → Good (at s draining [] c l k)
   first-of f o e d = record { fits = f; others = o; split = tt; count = refl; parts = e; past = d }
 
   judged : (b₁ b₃ b₄ b₅ : Bool) (a : Status) → judge b₁ b₃ b₄ b₅ ≡ refusesWith a → a ≡ Done → ⊥
@@ -218,24 +218,24 @@ module _ (whole : List Chunk) where
   judged false false true true a e f = let z : _≡_ {A = Bool} true false = cc in absurd (true≢false z)
   judged false false true false a e f = let z : _≡_ {A = Bool} true false = cc in absurd (true≢false z)
 
-  good-on : (y : Verdict) (c : Chunk) (l k : List Chunk) → verdictOn c ≡ y → Sound c → AllSound l → k ++ c ∷ l ≡ whole → AllFit k → Good (startOn y c l k)
+  good-on : (y : Verdict) (c : Chunk) (l : List Chunk) (k : Past) → verdictOn c ≡ y → Sound c → AllSound l → k .chunks ++ c ∷ l ≡ whole → AllFit (k .chunks) → Good (startOn y c l k)
   unfolding verdictOn
   good-on accepts c l k e s o h d = first-of (fit c s e) o h d
   good-on (refusesWith a) c l k e s o h d =
       (record { parts = h; past = d }, judged (ltb 16777215 (c .address + length (c .bytes))) (ltb 240 (length (c .bytes))) (eqb (length (c .bytes) % 4) 0) (ltb 256 (c .address % 256 + length (c .bytes))) a e)
 
-  pub good-start : (l k : List Chunk) → AllSound l → k ++ l ≡ whole → AllFit k → Good (startNext l k)
+  pub good-start : (l : List Chunk) (k : Past) → AllSound l → k .chunks ++ l ≡ whole → AllFit (k .chunks) → Good (startNext l k)
   unfolding startNext
   good-start [] k o h d = (record { parts = h; past = d }, refl)
   good-start (c ∷ l) k o h d = good-on (verdictOn c) c l k refl (o .0) (o .1) h d
 
-  good-settled : (e b : Bool) (c : Chunk) (l k : List Chunk) → Fit c → AllSound l → k ++ c ∷ l ≡ whole → AllFit k → Good (settled e b c l k)
+  good-settled : (e b : Bool) (c : Chunk) (l : List Chunk) (k : Past) → Fit c → AllSound l → k .chunks ++ c ∷ l ≡ whole → AllFit (k .chunks) → Good (settled e b c l k)
   unfolding settled
   good-settled true b c l k f o h d = first-of f o h d
   good-settled false true c l k f o h d = first-of f o h d
-  good-settled false false c l k f o h d = good-start l (k ++ c ∷ []) o (append-snoc k c l ∙ h) (fit-snoc k c d f)
+  good-settled false false c l k f o h d = good-start l (joined k c) o (append-snoc (k .chunks) c l ∙ h) (fit-snoc (k .chunks) c d f)
 
-  good-stage : (s : Stage) (taken : List ℕ) (c : Chunk) (l k : List Chunk) → Fit c → AllSound l → k ++ c ∷ l ≡ whole → AllFit k → Good (stageAfter s taken c l k)
+  good-stage : (s : Stage) (taken : List ℕ) (c : Chunk) (l : List Chunk) (k : Past) → Fit c → AllSound l → k .chunks ++ c ∷ l ≡ whole → AllFit (k .chunks) → Good (stageAfter s taken c l k)
   unfolding stageAfter
   good-stage enables taken c l k f o h d = first-of f o h d
   good-stage programs taken c l k f o h d = first-of f o h d
@@ -243,7 +243,7 @@ module _ (whole : List Chunk) where
   good-stage clears taken c l k f o h d = first-of f o h d
   good-stage disables taken c l k f o h d = record { parts = h; past = d }
 
-  good-by : (b : Bool) (s : Stage) (p : Phase) (taken : List ℕ) (c : Chunk) (l k : List Chunk) (v : ℕ) → Going s p taken c l k
+  good-by : (b : Bool) (s : Stage) (p : Phase) (taken : List ℕ) (c : Chunk) (l : List Chunk) (k : Past) (v : ℕ) → Going s p taken c l k
       → Good (cond b (stageAfter s taken c l k) (at s (phaseAfter (transferOf s c) p v) (takenAfter p taken v) c l k))
   good-by true s p taken c l k v g = good-stage s taken c l k (g .fits) (g .others) (g .parts) (g .past)
   good-by false s p taken c l k v g =
@@ -258,6 +258,6 @@ pub good-driver : (a : ℕ) (bs : List ℕ) → AllBytes bs → Good (chunks a b
 unfolding driverStart
 good-driver a bs h = go (ltb 16777215 (a + length bs))
   where
-    go : (b : Bool) → Good (chunks a bs) (cond b (over (refuses OutOfRange) (chunks a bs) []) (startNext (chunks a bs) []))
+    go : (b : Bool) → Good (chunks a bs) (cond b (over (refuses OutOfRange) (chunks a bs) outset) (startNext (chunks a bs) outset))
     go true = (record { parts = refl; past = tt }, λ e. let z : _≡_ {A = Bool} true false = cc in absurd (true≢false z))
-    go false = good-start (chunks a bs) (chunks a bs) [] (chunks-sound a bs h) refl tt
+    go false = good-start (chunks a bs) (chunks a bs) outset (chunks-sound a bs h) refl tt

@@ -1,6 +1,7 @@
 -- Where the bytes of chunks land, and what finished chunks leave in the array. Assumes nothing.
 use mathlib.Core.Path.{_≡_, refl, ap, _∙_}
-use mathlib.Core.Option.{none, some}
+use mathlib.Core.Bool.{Bool, true, false, cond, _&&_}
+use mathlib.Core.Option.{Option, none, some}
 use mathlib.Core.Logic.{_⊎_, inl, inr}
 use mathlib.Core.List.{List, [], _∷_, _++_}
 use Prim.Native.Nat.{ℕ, zero, suc, _+_, _-_, _%_, _≤_, _<_}
@@ -8,10 +9,11 @@ use native.Mathlib.Omega.{arith}
 use native.Mathlib.Decide.{decLe}
 use lib.Bits.{bitAnd}
 use lib.ListN.{length, getD, take, drop, length-take, length-drop}
-use borrow.Author.Tests.{eq-eqb, ne-eqb}
+use lib.Dec.{leb, ltb}
+use borrow.Author.Tests.{eq-eqb, ne-eqb, le-leb, lt-leb, lt-ltb, le-ltb}
 use Rattle.qspi_calls.specs.Chunks.{Chunk, chunksIn, chunks, Among, here, there}
-use Rattle.power_cut.specs.Flash.{Array, byteAddress, landsFrom, lands, programmed}
-use Rattle.power_cut.specs.Statement.{In, total}
+use Rattle.power_cut.specs.Flash.{Array, byteAddress, landsFrom, lands, anded, programmed}
+use Rattle.power_cut.specs.Statement.{In, total, brought, anding}
 use Rattle.power_cut.proofs.Fits.{Fit, AllFit}
 
 -- ---- one chunk
@@ -52,10 +54,6 @@ pub spared : (c : Chunk) (m : Array) (x : ℕ) → lands c x ≡ none → progra
 unfolding programmed
 spared c m x e = rw e
 
-landed : (c : Chunk) (m : Array) (i : ℕ) → Fit c → i < length (c .bytes) → programmed c m (c .address + i) ≡ bitAnd (m (c .address + i)) (getD (c .bytes) i 0)
-unfolding programmed
-landed c m i f h = rw (lands-in c i f h)
-
 pub beside : (x a n : ℕ) → ((a ≤ x) × (x < a + n) → ⊥) → Beside x a n
 beside x a n h = go (decLe a x) (decLe (a + n) x)
   where
@@ -89,23 +87,51 @@ above-among : (a : ℕ) (l : List Chunk) {c : Chunk} → Above a l → Among c l
 above-among a (c ∷ l) h here = h .0
 above-among a (b ∷ l) h (there m) = above-among a l (h .1) m
 
-applied-above : (l : List Chunk) (m : Array) (a x : ℕ) → AllFit l → Above a l → x < a → applied l m x ≡ m x
-unfolding applied
-applied-above [] m a x f h o = refl
-applied-above (c ∷ l) m a x f h o = applied-above l (programmed c m) a x (f .1) (h .1) o ∙ spared c m x (lands-out c x (f .0) (inl (omega (arith, h .0))))
+-- ---- what each chunk brought, by its addresses
 
-pub applied-in : (l : List Chunk) (m : Array) {c : Chunk} (i : ℕ) → AllFit l → Ordered l → Among c l → i < length (c .bytes) → applied l m (c .address + i) ≡ bitAnd (m (c .address + i)) (getD (c .bytes) i 0)
-unfolding applied
-applied-in (c ∷ l) m i f o here h = applied-above l (programmed c m) (c .address + length (c .bytes)) (c .address + i) (f .1) (o .0) (omega arith) ∙ landed c m i (f .0) h
-applied-in (b ∷ l) m {c} i f o (there n) h =
-    applied-in l (programmed b m) i (f .1) (o .1) n h
-    ∙ ap (λ (z : ℕ). bitAnd z (getD (c .bytes) i 0)) (spared b m (c .address + i) (lands-out b (c .address + i) (f .0) (inr (omega (arith, above-among (b .address + length (b .bytes)) l (o .0) n)))))
+-- a chunk that `program` accepts lands where it says
+lands-brought : (c : Chunk) (x : ℕ) → Fit c → lands c x ≡ brought c x
+lands-brought c x f = go (decLe (c .address) x) (decLe (c .address + length (c .bytes)) x)
+  where
+    go : Dec (c .address ≤ x) → Dec (c .address + length (c .bytes) ≤ x) → lands c x ≡ brought c x
+    go (no p) q = rw (lt-leb (c .address) x (omega arith)) (lands-out c x f (inl (omega arith)))
+    go (yes p) (yes q) = rw (le-leb (c .address) x p, le-ltb x (c .address + length (c .bytes)) q) (lands-out c x f (inr q))
+    go (yes p) (no q) =
+        let i : c .address + (x - c .address) ≡ x = omega arith in
+        rw (le-leb (c .address) x p, lt-ltb x (c .address + length (c .bytes)) (omega arith)) (rw i at (lands-in c (x - c .address) f (omega arith)))
 
-pub applied-out : (l : List Chunk) (m : Array) (x : ℕ) → AllFit l → ((c : Chunk) → Among c l → In x c → ⊥) → applied l m x ≡ m x
-unfolding applied
-applied-out [] m x f h = refl
-applied-out (c ∷ l) m x f h =
-    applied-out l (programmed c m) x (f .1) (λ b n. h b (there n)) ∙ spared c m x (lands-out c x (f .0) (beside x (c .address) (length (c .bytes)) (h c here)))
+pub applied-anding : (l : List Chunk) (m : Array) (x : ℕ) → AllFit l → applied l m x ≡ anding l x (m x)
+unfolding applied anding programmed
+applied-anding [] m x f = refl
+applied-anding (c ∷ l) m x f = applied-anding l (programmed c m) x (f .1) ∙ ap (λ (z : Option ℕ). anding l x (anded (m x) z)) (lands-brought c x (f .0))
+
+pub brought-out : (c : Chunk) (x : ℕ) → Beside x (c .address) (length (c .bytes)) → brought c x ≡ none
+brought-out c x (inl o) = rw (lt-leb (c .address) x o)
+brought-out c x (inr o) = go (leb (c .address) x)
+  where
+    go : (b : Bool) → cond (b && ltb x (c .address + length (c .bytes))) (some (getD (c .bytes) (x - c .address) 0)) none ≡ none
+    go true = rw (le-ltb x (c .address + length (c .bytes)) o)
+    go false = refl
+
+pub brought-in : (c : Chunk) (i : ℕ) → i < length (c .bytes) → brought c (c .address + i) ≡ some (getD (c .bytes) i 0)
+brought-in c i h =
+    let e : c .address + i - c .address ≡ i = omega arith in
+    rw (le-leb (c .address) (c .address + i) (omega arith), lt-ltb (c .address + i) (c .address + length (c .bytes)) (omega arith), e)
+
+anding-above : (l : List Chunk) (a x v : ℕ) → Above a l → x < a → anding l x v ≡ v
+unfolding anding
+anding-above [] a x v h o = refl
+anding-above (c ∷ l) a x v h o = rw (brought-out c x (inl (omega (arith, h .0)))) (anding-above l a x v (h .1) o)
+
+pub anding-in : (l : List Chunk) {c : Chunk} (i v : ℕ) → Ordered l → Among c l → i < length (c .bytes) → anding l (c .address + i) v ≡ bitAnd v (getD (c .bytes) i 0)
+unfolding anding
+anding-in (c ∷ l) i v o here h = rw (brought-in c i h) (anding-above l (c .address + length (c .bytes)) (c .address + i) (bitAnd v (getD (c .bytes) i 0)) (o .0) (omega arith))
+anding-in (b ∷ l) {c} i v o (there n) h = rw (brought-out b (c .address + i) (inr (omega (arith, above-among (b .address + length (b .bytes)) l (o .0) n)))) (anding-in l i v (o .1) n h)
+
+pub anding-out : (l : List Chunk) (x v : ℕ) → ((c : Chunk) → Among c l → In x c → ⊥) → anding l x v ≡ v
+unfolding anding
+anding-out [] x v h = refl
+anding-out (c ∷ l) x v h = rw (brought-out c x (beside x (c .address) (length (c .bytes)) (h c here))) (anding-out l x v (λ b n. h b (there n)))
 
 -- ---- the chunks of a call
 

@@ -1,10 +1,10 @@
 -- The driver and the device together: at each stage of a chunk the flash is idle, has its latch set, or works on that chunk. Kept by every
 -- access and by everything silent. Assumes nothing.
 use mathlib.Core.Path.{_≡_, refl, ap, _∙_, sym}
-use mathlib.Core.Bool.{Bool, true, false, cond, true≢false}
+use mathlib.Core.Bool.{Bool, true, false, cond}
 use mathlib.Core.Option.{none, some}
 use mathlib.Core.List.{List, [], _∷_, _++_, append-assoc, append-nil}
-use Prim.Native.Nat.{ℕ, zero, suc, _+_, _-_, _≤_, _<_}
+use Prim.Native.Nat.{ℕ, zero, suc, _+_, _-_}
 use native.Mathlib.Omega.{arith}
 use lib.ListN.{length}
 use Rattle.zynq7000.specs.Access.{valueWord}
@@ -14,13 +14,13 @@ use Rattle.qspi_calls.specs.Chunks.{Chunk}
 use Rattle.qspi_operation.specs.Machine.{Transfer, want, wantAt, Matches, m-write}
 use Rattle.qspi_calls.proofs.ProgramWords.{length-words}
 use Rattle.power_cut.specs.Flash.{Array, programmed, programming, Flash, flash, busy, commandOf, obey, execute, Settles, settles}
-use Rattle.power_cut.specs.Controller.{registerAt, bytesOut, showsBusy, showsProgramError, isStatusRead, Device, device, Silent, out, unasked, idle, afterWrite, effect, Gives, AllOut}
+use Rattle.power_cut.specs.Controller.{registerAt, bytesOut, showsBusy, showsProgramError, isStatusRead, Device, device, Silent, out, unasked, idle, afterWrite, effect, Gives}
 use Rattle.qspi_calls.proofs.Phases.{words}
-use Rattle.power_cut.proofs.Driver.{Phase, draining, dropping, opening, lowering, switching, sending, starting, releasing, waiting, again, taking, closing, raising, leaving, midway, action, sendNext, takeNext, phaseAfter, takenAfter, isLast, Stage, enables, programs, polls, clears, disables, transferOf, Ending, succeeded, failed, refuses, Driver, at, over, stateOf, Verdict, accepts, refusesWith, verdictOn, startOn, startNext, settled, stageAfter, driverAfter}
+use Rattle.power_cut.proofs.Driver.{Phase, draining, dropping, opening, lowering, switching, sending, starting, releasing, waiting, again, taking, closing, raising, leaving, midway, action, sendNext, takeNext, phaseAfter, takenAfter, isLast, Stage, enables, programs, polls, clears, disables, transferOf, Ending, succeeded, failed, refuses, Past, joined, Driver, at, over, stateOf, Verdict, accepts, refusesWith, verdictOn, startOn, startNext, settled, stageAfter, driverAfter}
 use Rattle.power_cut.proofs.Fits.{Fit, Going, Good}
 use Rattle.power_cut.proofs.Watch.{width, port-is, asked, asks-program, newest, newest-one}
 use Rattle.power_cut.proofs.Lands.{applied, applied-snoc}
-use Rattle.power_cut.proofs.Control.{Up, Live, c-drain, c-leave, Held, held, flashAfter, accessed, Says, goes-out, by-hand, ctl-map}
+use Rattle.power_cut.proofs.Control.{Up, Live, c-drain, c-leave, Held, held, flashAfter, clash, accessed, Says, goes-out, by-hand, ctl-map}
 
 -- ---- the flash at each stage
 
@@ -60,10 +60,10 @@ NotFailed (refuses a) = Unit {0}
 
 -- after the chunks of earlier calls
 pub data OnDevice (early : List Chunk) (old : Array) : Driver → Device → Type 0 where
-  during : {s : Stage} {p : Phase} {taken : List ℕ} {c : Chunk} {l k : List Chunk} {f : Flash} {d : Device}
-      → FlashAt s (isLast p) (applied (early ++ k) old) c f → Held (Known s f) (width s) (transferOf s c) p taken f d → OnDevice early old (at s p taken c l k) d
-  ended : {a : Ending} {l k : List Chunk} {c : ℕ} {w r : List ℕ} {f : Flash}
-      → NotFailed a → Up c → Calm (applied (early ++ k) old) f → OnDevice early old (over a l k) (device c [] [] w r f)
+  during : {s : Stage} {p : Phase} {taken : List ℕ} {c : Chunk} {l : List Chunk} {k : Past} {f : Flash} {d : Device}
+      → FlashAt s (isLast p) (applied (early ++ k .chunks) old) c f → Held (Known s f) (width s) (transferOf s c) p taken f d → OnDevice early old (at s p taken c l k) d
+  ended : {a : Ending} {l : List Chunk} {k : Past} {c : ℕ} {w r : List ℕ} {f : Flash}
+      → NotFailed a → Up c → Calm (applied (early ++ k .chunks) old) f → OnDevice early old (over a l k) (device c [] [] w r f)
 
 -- ---- silent steps
 
@@ -78,9 +78,6 @@ settles-busy settles = refl
 
 settles-idle : {f g : Flash} → Settles f g → busy g ≡ false
 settles-idle settles = refl
-
-clash : {A : Type 0} {b : Bool} → b ≡ true → b ≡ false → A
-clash p q = absurd (true≢false (sym p ∙ q))
 
 works-settles : {m : Array} {c : Chunk} {f g : Flash} → Works m c f → Settles f g → Works m c g
 works-settles under settles = past
@@ -124,12 +121,12 @@ silent-held s p taken c b m {f} y (held k) (unasked h) = clash (by-hand (Known s
 silent-held s p taken c b m {f} y (held k) (idle {g = g} h) = (g, settles-flash s b m c y h, held (ctl-map (Known s f) (Known s g) (width s) (transferOf s c) (settles-known s h) k))
 
 module _ (early : List Chunk) (old : Array) where
-  silent-ended : (a : Ending) (l k : List Chunk) {c : ℕ} {w r : List ℕ} {f : Flash} {e : Device} → NotFailed a → Up c → Calm (applied (early ++ k) old) f → Silent (device c [] [] w r f) e → OnDevice early old (over a l k) e
+  silent-ended : (a : Ending) (l : List Chunk) (k : Past) {c : ℕ} {w r : List ℕ} {f : Flash} {e : Device} → NotFailed a → Up c → Calm (applied (early ++ k .chunks) old) f → Silent (device c [] [] w r f) e → OnDevice early old (over a l k) e
   silent-ended a l k nf u y (unasked h) = clash (u .by-hand) h
   silent-ended a l k nf u y (idle h) = clash (settles-busy h) (calm-busy y)
 
   pub silent : {s : Driver} {d e : Device} → OnDevice early old s d → Silent d e → OnDevice early old s e
-  silent (during {s} {p} {taken} {c} {l} {k} {f} y h) z = let o = silent-held s p taken c (isLast p) (applied (early ++ k) old) y h z in during (o .1) (o .2)
+  silent (during {s} {p} {taken} {c} {l} {k} {f} y h) z = let o = silent-held s p taken c (isLast p) (applied (early ++ k .chunks) old) y h z in during (o .1) (o .2)
   silent (ended {a} {l} {k} nf u y) z = silent-ended a l k nf u y z
 
 -- ---- the rising chip select
@@ -163,20 +160,13 @@ rise-known disables m c f y reply h = tt
 
 -- ---- accesses
 
--- no transfer takes more replies than it has words, and each takes one
-pub replies-few : (s : Stage) (c : Chunk) → Fit c → transferOf s c .replies ≤ length (words (transferOf s c))
-replies-few enables c h = omega arith
-replies-few programs c h = omega (arith, length-words (c .bytes) (h .fours))
-replies-few polls c h = omega arith
-replies-few clears c h = omega arith
-replies-few disables c h = omega arith
-
-pub replies-some : (s : Stage) (c : Chunk) → Fit c → 0 < transferOf s c .replies
-replies-some enables c h = omega arith
-replies-some programs c h = omega (arith, h .fours, h .sound .some-byte)
-replies-some polls c h = omega arith
-replies-some clears c h = omega arith
-replies-some disables c h = omega arith
+-- each transfer takes a reply for each of its words
+pub reply-each : (s : Stage) (c : Chunk) → Fit c → transferOf s c .replies ≡ length (words (transferOf s c))
+reply-each enables c h = refl
+reply-each programs c h = omega (arith, length-words (c .bytes) (h .fours))
+reply-each polls c h = refl
+reply-each clears c h = refl
+reply-each disables c h = refl
 
 pub last-or : (b : Bool) (p q : Phase) → isLast p ≡ false → isLast q ≡ false → isLast (cond b p q) ≡ false
 last-or true p q e h = e
@@ -195,11 +185,11 @@ held-map {P} {Q} {n} {x} g (held k) = held (ctl-map P Q n x g k)
 
 module _ (early : List Chunk) (old : Array) where
   -- an access that is not the transfer's last
-  module _ (s : Stage) (taken : List ℕ) (c : Chunk) (l k : List Chunk) (f : Flash) where
-    stays : (p : Phase) (taken′ : List ℕ) {d : Device} → FlashAt s false (applied (early ++ k) old) c f → isLast p ≡ false → Held (Known s f) (width s) (transferOf s c) p taken′ f d → OnDevice early old (at s p taken′ c l k) d
-    stays p taken′ y e h = let z : FlashAt s (isLast p) (applied (early ++ k) old) c f = rw e y in during z h
+  module _ (s : Stage) (taken : List ℕ) (c : Chunk) (l : List Chunk) (k : Past) (f : Flash) where
+    stays : (p : Phase) (taken′ : List ℕ) {d : Device} → FlashAt s false (applied (early ++ k .chunks) old) c f → isLast p ≡ false → Held (Known s f) (width s) (transferOf s c) p taken′ f d → OnDevice early old (at s p taken′ c l k) d
+    stays p taken′ y e h = let z : FlashAt s (isLast p) (applied (early ++ k .chunks) old) c f = rw e y in during z h
 
-    inner : (p : Phase) (v : ℕ) {d : Device} → isLast p ≡ false → Fit c → FlashAt s false (applied (early ++ k) old) c f
+    inner : (p : Phase) (v : ℕ) {d : Device} → isLast p ≡ false → Fit c → FlashAt s false (applied (early ++ k .chunks) old) c f
         → Held (Known s f) (width s) (transferOf s c) (phaseAfter (transferOf s c) p v) (takenAfter p taken v) (flashAfter (width s) (transferOf s c) p f) d
         → OnDevice early old (at s (phaseAfter (transferOf s c) p v) (takenAfter p taken v) c l k) d
     unfolding phaseAfter
@@ -215,15 +205,15 @@ module _ (early : List Chunk) (old : Array) where
     inner (again n) v e i y h = stays _ taken y (last-or (waits v) (taking n) (waiting n) refl refl) h
     inner (taking n) v e i y h = stays _ (v ∷ taken) y (last-take n) h
     inner closing v e i y h = during y h
-    inner (raising w) v e i y h = during (rise s (applied (early ++ k) old) c f i y) (held-map (rise-known s (applied (early ++ k) old) c f y) h)
+    inner (raising w) v e i y h = during (rise s (applied (early ++ k .chunks) old) c f i y) (held-map (rise-known s (applied (early ++ k .chunks) old) c f y) h)
     inner leaving v e i y h = clash refl e
 
   -- the next chunk begins, or the call is over
-  begins-on : (y : Verdict) (b : Chunk) (l k : List Chunk) {c : ℕ} {w r : List ℕ} {f : Flash} → Up c → Calm (applied (early ++ k) old) f → OnDevice early old (startOn y b l k) (device c [] [] w r f)
+  begins-on : (y : Verdict) (b : Chunk) (l : List Chunk) (k : Past) {c : ℕ} {w r : List ℕ} {f : Flash} → Up c → Calm (applied (early ++ k .chunks) old) f → OnDevice early old (startOn y b l k) (device c [] [] w r f)
   begins-on accepts b l k u y = during y (held (c-drain u))
   begins-on (refusesWith a) b l k u y = ended tt u y
 
-  pub begins : (l k : List Chunk) {c : ℕ} {w r : List ℕ} {f : Flash} → Up c → Calm (applied (early ++ k) old) f → OnDevice early old (startNext l k) (device c [] [] w r f)
+  pub begins : (l : List Chunk) (k : Past) {c : ℕ} {w r : List ℕ} {f : Flash} → Up c → Calm (applied (early ++ k .chunks) old) f → OnDevice early old (startNext l k) (device c [] [] w r f)
   unfolding startNext
   begins [] k u y = ended tt u y
   begins (b ∷ l) k u y = begins-on (verdictOn b) b l k u y
@@ -232,17 +222,17 @@ module _ (early : List Chunk) (old : Array) where
   works-calm under e = clash refl e
   works-calm past e = calm
 
-  poll-ends : (e b : Bool) (c : Chunk) (l k : List Chunk) {g : ℕ} {w r : List ℕ} {f : Flash} → Up g → Works (applied (early ++ k) old) c f → e ≡ false → (b ≡ false → busy f ≡ false)
+  poll-ends : (e b : Bool) (c : Chunk) (l : List Chunk) (k : Past) {g : ℕ} {w r : List ℕ} {f : Flash} → Up g → Works (applied (early ++ k .chunks) old) c f → e ≡ false → (b ≡ false → busy f ≡ false)
       → OnDevice early old (settled e b c l k) (device g [] [] w r f)
   unfolding settled
   poll-ends true b c l k u y h i = clash refl h
   poll-ends false true c l k u y h i = during y (held (c-drain u))
   poll-ends false false c l k {f = f} u y h i =
-      let e : early ++ (k ++ c ∷ []) ≡ (early ++ k) ++ c ∷ [] = sym (append-assoc early k (c ∷ [])) in
-      let z : Calm (applied (early ++ (k ++ c ∷ [])) old) f = rw (e, applied-snoc (early ++ k) c old) (works-calm y (i refl)) in
-      begins l (k ++ c ∷ []) u z
+      let e : early ++ (k .chunks ++ c ∷ []) ≡ (early ++ k .chunks) ++ c ∷ [] = sym (append-assoc early (k .chunks) (c ∷ [])) in
+      let z : Calm (applied (early ++ (k .chunks ++ c ∷ [])) old) f = rw (e, applied-snoc (early ++ k .chunks) c old) (works-calm y (i refl)) in
+      begins l (joined k c) u z
 
-  stage-ends : (s : Stage) (taken : List ℕ) (c : Chunk) (l k : List Chunk) {g : ℕ} {w r : List ℕ} (f : Flash) → length taken ≡ transferOf s c .replies → Up g → FlashAt s true (applied (early ++ k) old) c f → Known s f (newest taken)
+  stage-ends : (s : Stage) (taken : List ℕ) (c : Chunk) (l : List Chunk) (k : Past) {g : ℕ} {w r : List ℕ} (f : Flash) → length taken ≡ transferOf s c .replies → Up g → FlashAt s true (applied (early ++ k .chunks) old) c f → Known s f (newest taken)
       → OnDevice early old (stageAfter s taken c l k) (device g [] [] w r f)
   unfolding stageAfter
   stage-ends enables taken c l k f e u y h = during y (held (c-drain u))
@@ -251,36 +241,36 @@ module _ (early : List Chunk) (old : Array) where
   stage-ends clears taken c l k f e u y h = absurd y
   stage-ends disables taken c l k f e u y h = absurd y
 
-  module _ (whole : List Chunk) (s : Stage) (taken : List ℕ) (c : Chunk) (l k : List Chunk) (f : Flash) where
-    going-last : {d : Device} {a : Access} → Going whole s leaving taken c l k → FlashAt s true (applied (early ++ k) old) c f → Held (Known s f) (width s) (transferOf s c) leaving taken f d → Matches (wantAt (midway leaving) (action (transferOf s c) leaving)) a
+  module _ (whole : List Chunk) (s : Stage) (taken : List ℕ) (c : Chunk) (l : List Chunk) (k : Past) (f : Flash) where
+    going-last : {d : Device} {a : Access} → Going whole s leaving taken c l k → FlashAt s true (applied (early ++ k .chunks) old) c f → Held (Known s f) (width s) (transferOf s c) leaving taken f d → Matches (wantAt (midway leaving) (action (transferOf s c) leaving)) a
         → OnDevice early old (stageAfter s taken c l k) (effect d a)
     unfolding effect afterWrite registerAt
     going-last g y (held (c-leave u h)) m-write = stage-ends s taken c l k f (g .count) u y h
 
-    going-inner : (p : Phase) {d : Device} {a : Access} → isLast p ≡ false → Fit c → FlashAt s (isLast p) (applied (early ++ k) old) c f → Held (Known s f) (width s) (transferOf s c) p taken f d
-        → Matches (wantAt (midway p) (action (transferOf s c) p)) a → Gives d a → AllOut d a
+    going-inner : (p : Phase) {d : Device} {a : Access} → isLast p ≡ false → Fit c → FlashAt s (isLast p) (applied (early ++ k .chunks) old) c f → Held (Known s f) (width s) (transferOf s c) p taken f d
+        → Matches (wantAt (midway p) (action (transferOf s c) p)) a → Gives d a
         → OnDevice early old (at s (phaseAfter (transferOf s c) p (valueWord a)) (takenAfter p taken (valueWord a)) c l k) (effect d a)
-    going-inner p {a = a} e i y (held z) m g o =
-        inner s taken c l k f p (valueWord a) e i (rw e at y) (accessed (Known s f) (width s) (transferOf s c) f (port-is s c) (replies-some s c i) (replies-few s c i) z m g o)
+    going-inner p {a = a} e i y (held z) m g =
+        inner s taken c l k f p (valueWord a) e i (rw e at y) (accessed (Known s f) (width s) (transferOf s c) f (port-is s c) (reply-each s c i) z m g)
 
-    going-access : (p : Phase) {d : Device} {a : Access} → Going whole s p taken c l k → FlashAt s (isLast p) (applied (early ++ k) old) c f → Held (Known s f) (width s) (transferOf s c) p taken f d
-        → Matches (wantAt (midway p) (action (transferOf s c) p)) a → Gives d a → AllOut d a
+    going-access : (p : Phase) {d : Device} {a : Access} → Going whole s p taken c l k → FlashAt s (isLast p) (applied (early ++ k .chunks) old) c f → Held (Known s f) (width s) (transferOf s c) p taken f d
+        → Matches (wantAt (midway p) (action (transferOf s c) p)) a → Gives d a
         → OnDevice early old (driverAfter (at s p taken c l k) (valueWord a)) (effect d a)
     unfolding driverAfter
-    going-access draining q y h m g o = going-inner draining refl (q .fits) y h m g o
-    going-access dropping q y h m g o = going-inner dropping refl (q .fits) y h m g o
-    going-access opening q y h m g o = going-inner opening refl (q .fits) y h m g o
-    going-access (lowering e) q y h m g o = going-inner (lowering e) refl (q .fits) y h m g o
-    going-access switching q y h m g o = going-inner switching refl (q .fits) y h m g o
-    going-access (sending e w t) q y h m g o = going-inner (sending e w t) refl (q .fits) y h m g o
-    going-access starting q y h m g o = going-inner starting refl (q .fits) y h m g o
-    going-access (releasing e) q y h m g o = going-inner (releasing e) refl (q .fits) y h m g o
-    going-access (waiting e) q y h m g o = going-inner (waiting e) refl (q .fits) y h m g o
-    going-access (again e) q y h m g o = going-inner (again e) refl (q .fits) y h m g o
-    going-access (taking e) q y h m g o = going-inner (taking e) refl (q .fits) y h m g o
-    going-access closing q y h m g o = going-inner closing refl (q .fits) y h m g o
-    going-access (raising e) q y h m g o = going-inner (raising e) refl (q .fits) y h m g o
-    going-access leaving q y h m g o = going-last q y h m
+    going-access draining q y h m g = going-inner draining refl (q .fits) y h m g
+    going-access dropping q y h m g = going-inner dropping refl (q .fits) y h m g
+    going-access opening q y h m g = going-inner opening refl (q .fits) y h m g
+    going-access (lowering e) q y h m g = going-inner (lowering e) refl (q .fits) y h m g
+    going-access switching q y h m g = going-inner switching refl (q .fits) y h m g
+    going-access (sending e w t) q y h m g = going-inner (sending e w t) refl (q .fits) y h m g
+    going-access starting q y h m g = going-inner starting refl (q .fits) y h m g
+    going-access (releasing e) q y h m g = going-inner (releasing e) refl (q .fits) y h m g
+    going-access (waiting e) q y h m g = going-inner (waiting e) refl (q .fits) y h m g
+    going-access (again e) q y h m g = going-inner (again e) refl (q .fits) y h m g
+    going-access (taking e) q y h m g = going-inner (taking e) refl (q .fits) y h m g
+    going-access closing q y h m g = going-inner closing refl (q .fits) y h m g
+    going-access (raising e) q y h m g = going-inner (raising e) refl (q .fits) y h m g
+    going-access leaving q y h m g = going-last q y h m
 
-  pub advance : (whole : List Chunk) {s : Driver} {d : Device} {a : Access} → Good whole s → OnDevice early old s d → Matches (want (stateOf s)) a → Gives d a → AllOut d a → OnDevice early old (driverAfter s (valueWord a)) (effect d a)
-  advance whole q (during {s} {p} {taken} {c} {l} {k} {f} y h) m g o = going-access whole s taken c l k f p q y h m g o
+  pub advance : (whole : List Chunk) {s : Driver} {d : Device} {a : Access} → Good whole s → OnDevice early old s d → Matches (want (stateOf s)) a → Gives d a → OnDevice early old (driverAfter s (valueWord a)) (effect d a)
+  advance whole q (during {s} {p} {taken} {c} {l} {k} {f} y h) m g = going-access whole s taken c l k f p q y h m g

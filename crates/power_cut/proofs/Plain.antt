@@ -13,7 +13,9 @@ use borrow.Author.Tests.{ltb-true, ltb-false}
 use Rattle.qspi_calls.specs.Chunks.{Chunk, chunksIn, chunks, Among, here, there}
 use Rattle.power_cut.specs.Flash.{Array}
 use Rattle.power_cut.specs.Observer.{Observed}
-use Rattle.power_cut.specs.Statement.{In, total, NextOnly, no-doubt, the-next, Kept}
+use Rattle.power_cut.specs.Statement.{In, total, NextOnly, the-next, Save}
+use Rattle.power_cut.specs.OneCall.{KeptBy}
+use Rattle.power_cut.proofs.StatementLaws.{at-most-one}
 
 -- ---- the first chunks of the data
 
@@ -128,21 +130,16 @@ pub record Plain (a : ℕ) (bs : List ℕ) (old new : Array) (n : ℕ) (doubt : 
   pub next : (c : Chunk) → Among c doubt → c ≡ record { address = a + n; bytes = take 128 (drop n bs) }
   pub same : (x : ℕ) → ((a ≤ x) × (x < a + n) → ⊥) → ((c : Chunk) → Among c doubt → In x c → ⊥) → new x ≡ old x
 
--- "at most one chunk"
-at-most-one : {q l : List Chunk} → NextOnly q l → length q ≤ 1
-at-most-one no-doubt = omega arith
-at-most-one (the-next y z) = omega arith
-
 doubt-next : (f a : ℕ) (bs : List ℕ) (k l : List Chunk) {q : List Chunk} → k ++ l ≡ chunksIn f a bs → NextOnly q l → (c : Chunk) → Among c q → c ≡ record { address = a + total k; bytes = take 128 (drop (total k) bs) }
 doubt-next f a bs k l e (the-next {left = left} y z) c here = next-chunk f a bs k c left e
 
-pub plain : (a : ℕ) (bs : List ℕ) (old new : Array) (o : Observed) → Kept a bs old o new → Plain a bs old new (total (o .finished)) (o .doubt)
+pub plain : (c : Save) (old new : Array) (o : Observed) → KeptBy c old o new → Plain (c .address) (c .bytes) old new (total (o .finished)) (o .doubt)
 unfolding chunks
-plain a bs old new o k = record {
-  few = total-front (length bs) a bs (o .finished) (k .left) (k .first);
-  written = λ j h. (let s = stands (length bs) a bs (o .finished) (k .left) (k .first) j h in
+plain c old new o k = record {
+  few = total-front (length (c .bytes)) (c .address) (c .bytes) (o .finished) (k .left) (k .first);
+  written = λ j h. (let s = stands (length (c .bytes)) (c .address) (c .bytes) (o .finished) (k .left) (k .first) j h in
       ap new (sym (s .address-is)) ∙ k .written (s .chunk) (s .among) (s .place) (s .inside) ∙ rw (s .address-is, s .byte-is));
   one = at-most-one (k .next);
-  next = doubt-next (length bs) a bs (o .finished) (k .left) (k .first) (k .next);
-  same = λ x h g. k .same x (λ c m i. h (covers (length bs) a bs (o .finished) (k .left) (k .first) x m i)) g;
+  next = doubt-next (length (c .bytes)) (c .address) (c .bytes) (o .finished) (k .left) (k .first) (k .next);
+  same = λ x h g. k .same x (λ b m i. h (covers (length (c .bytes)) (c .address) (c .bytes) (o .finished) (k .left) (k .first) x m i)) g;
 }

@@ -1,8 +1,8 @@
 -- What the run of `write_pages` promises, out of what its start and its run promise. Assumes nothing.
 use mathlib.Core.Path.{_≡_, refl, ap, subst, _∙_, sym}
 use mathlib.Core.Bool.{Bool, true, false}
-use mathlib.Core.List.{List, [], _∷_}
-use Prim.Native.Nat.{ℕ, suc, _+_, _/_, _<_}
+use mathlib.Core.List.{List, []}
+use Prim.Native.Nat.{ℕ, _+_, _/_, _<_}
 use lib.Dec.{ltb}
 use lib.ListN.{length, getD}
 use Rattle.qspi_script.specs.Answer.{Answered}
@@ -27,18 +27,13 @@ use Rattle.qspi_calls.specs.Calls.{writePages}
 use Rattle.qspi_calls.specs.Starts.{pick, over, opened, placeAt, pagingJob, writePagesOf}
 use Rattle.qspi_calls.specs.declared.run.Ran.{Ran}
 use Rattle.qspi_calls.specs.Promise.{loggedOf, handed, Called}
-use Rattle.qspi_calls.proofs.WireOrder.{AllBytes}
 use Rattle.qspi_calls.proofs.Registers.{Call, run-loggable}
 use Rattle.qspi_calls.proofs.Promised.{whole-call}
 use Rattle.power_cut.specs.Promise.{Saved, answerOf}
 use Rattle.power_cut.specs.declared.PagesRan.{PagesRan}
-use Rattle.power_cut.proofs.Theorem.{power-cut}
+use Rattle.power_cut.specs.Row.{saveOf, IsRun}
+use Rattle.power_cut.proofs.Rows.{run-goes, power-cut-behind}
 use Rattle.power_cut.proofs.Offsets.{used-words}
-
--- what is lent as bytes is bytes
-pub all-bytes : (bs : List ℕ) → ((i : ℕ) → getD bs i 0 < 256) → AllBytes bs
-all-bytes [] h = tt
-all-bytes (b ∷ bs) h = (h 0, all-bytes bs (λ i. h (suc i)))
 
 -- the job of a save, however it starts
 pub paging : (a n log : ℕ) → writePagesOf a n log .job ≡ pagingJob a n log
@@ -80,6 +75,10 @@ module _ (a : ℕ) (bytes rs log : List ℕ) where
       ∙ ap (λ (z : ℕ). record { ran = record { answer = result .answer; used = answeredOf result .used; replies = z }; programmed = r .programmed }) i
       ∙ ap (λ (z : ℕ). record { ran = record { answer = result .answer; used = answeredOf result .used; replies = answeredOf result .replies }; programmed = z }) n
 
+  -- the result is that of a run
+  is-run : ((i : ℕ) → getD bytes i 0 < 256) → IsRun (saveOf a bytes result)
+  is-run octets = record { octets = octets; room = length log / 2; replies = rs; is = refl }
+
   -- and the power-cut statement of them
   pub saved : {r : PagesRan} {log₁ : List ℕ} → ((i : ℕ) → getD bytes i 0 < 256) → Promised r log₁ → Saved a bytes r log₁
   saved {r} {log₁} octets p =
@@ -87,5 +86,6 @@ module _ (a : ℕ) (bytes rs log : List ℕ) where
         accesses = result .log;
         is-log = used-words result log;
         to-registers = run-loggable (Call.write-pages a bytes) (length log / 2) rs;
-        claim = power-cut a bytes (all-bytes bytes octets) (length log / 2) rs;
+        runs = λ g. is-run octets;
+        claim = power-cut-behind (run-goes (is-run octets));
       }))

@@ -2,7 +2,7 @@
 use mathlib.Core.Path.{_≡_, refl, ap, subst, _∙_, sym}
 use mathlib.Core.List.{List, [], _∷_, _++_}
 use mathlib.Core.Bool.{Bool, true, false}
-use Prim.Native.Nat.{ℕ, _+_, _*_, _<_, _≤_}
+use Prim.Native.Nat.{ℕ, _+_, _-_, _*_, _/_, _<_, _≤_}
 use native.Mathlib.Omega.{arith}
 use lib.ListN.{length, getD, take, drop, length-append}
 use lib.Seq.{take-at, sets, length-sets, sets-eq}
@@ -10,29 +10,62 @@ use Rattle.zynq7000.specs.Access.{encode, Loggable}
 use Rattle.zynq7000.specs.declared.qspi.Access.{Access}
 use Rattle.zynq7000.proofs.AccessLaws.{length-encode}
 use Rattle.qspi_script.specs.Answer.{Answered}
+use Rattle.qspi_script.specs.declared.Status.{Status}
+use Rattle.qspi_script.specs.declared.Status.the-variants.{Going}
 use Rattle.qspi_operation.specs.declared.Op.{Op}
 use Rattle.qspi_operation.specs.declared.Reply.{Reply}
 use Rattle.qspi_operation.specs.declared.Stepped.{Stepped}
 use Rattle.qspi_operation.specs.Step.{isGoing}
-use Rattle.qspi_operation.specs.Machine.{begin, countIn, Result, runs, repliesOf, after, Makes}
+use Rattle.qspi_operation.specs.Machine.{State, begin, countIn, Result, halt, runs, called, repliesOf, after, Makes}
 use Rattle.qspi_operation.specs.Points.{Lending, sameAs, Point, outset, stepAt, accessAt, rest, ranAt}
 use Rattle.qspi_operation.specs.Follows.{Follows, Leaves, StepFollows, RunFollows}
-use Rattle.qspi_operation.specs.Orders.{Stands}
+use Rattle.qspi_operation.specs.Orders.{before, Stands}
 use Rattle.qspi_operation.proofs.Following.{shows}
 use Rattle.qspi_operation.proofs.Orders.{runs-on, before-log, step-stands, run-stands, outset-stands}
+use Rattle.qspi_operation.proofs.Passes.{going-is}
 use Rattle.qspi_operation.proofs.PointLaws.{made-more, encode-append}
 use Rattle.qspi_calls.specs.Begins.{BeginsWith}
 use Rattle.qspi_calls.specs.Calls.{writePages}
-use Rattle.qspi_calls.proofs.WireOrder.{AllBytes}
 use Rattle.qspi_calls.proofs.Registers.{Call, run-loggable}
-use Rattle.power_cut.specs.Statement.{PowerCut}
+use Rattle.power_cut.specs.Statement.{Save, Each, PowerCut}
+use Rattle.power_cut.specs.Row.{saveOf, IsRun, Precedes}
 use Rattle.power_cut.specs.Saving.{lending, Saving, KeepsSaving}
-use Rattle.power_cut.proofs.Promised.{all-bytes}
-use Rattle.power_cut.proofs.Theorem.{power-cut-of}
+use Rattle.power_cut.proofs.Rows.{all-bytes, run-goes, power-cut-behind}
 
--- THEOREM. Of the call over lists: wherever it stands after any steps, whatever replies they were handed.
-pub stepped-cut : (a : ℕ) (bs : List ℕ) (room : ℕ) → AllBytes bs → (p : Point) → Stands (begin (writePages a bs) [] 0) room p → PowerCut a bs (p .made) (p .answer) (countIn (p .state))
-stepped-cut a bs room h p s = power-cut-of a bs h (p .made) (p .answer) (p .state) (s .makes) (s .is) (s .done)
+-- the save that it is so far
+abbrev pub saveAt : ℕ → List ℕ → Point → Save
+saveAt a bs p = record { address = a; bytes = bs; accesses = p .made; answer = p .answer; count = countIn (p .state) }
+
+-- THEOREM. Once it has ended it is a run over the replies that it took.
+pub stepped-run : (a : ℕ) (bs : List ℕ) (room : ℕ) → ((i : ℕ) → getD bs i 0 < 256) → (p : Point) → Stands (begin (writePages a bs) [] 0) room p → isGoing (p .answer) ≡ false → IsRun (saveAt a bs p)
+stepped-run a bs room octets p s e =
+    let n = room / 2 - length (p .made) in
+    let k : length (p .made) + n ≡ room / 2 = omega (arith, s .short) in
+    let r : called (writePages a bs) (room / 2) (repliesOf (p .made) ++ []) ≡ before (p .made) (halt (p .answer) (p .state) n []) =
+    ap (λ (z : ℕ). runs z (begin (writePages a bs) [] 0) (repliesOf (p .made) ++ [])) (sym k) ∙ runs-on (p .made) (begin (writePages a bs) [] 0) n [] (s .makes)
+    ∙ ap (λ (z : State). before (p .made) (runs n z [])) (sym (s .is)) ∙ ap (before (p .made)) (s .over e) in
+    record { octets = octets; room = room / 2; replies = repliesOf (p .made) ++ []; is = sym (ap (saveOf a bs) r ∙ save-before (p .made)) }
+  where
+    save-before : (l : List Access) → saveOf a bs (before l (halt (p .answer) (p .state) (room / 2 - length (p .made)) [])) ≡ record { address = a; bytes = bs; accesses = l; answer = p .answer; count = countIn (p .state) }
+    save-before [] = refl
+    save-before (b ∷ l) = ap (λ (c : Save). record { address = a; bytes = bs; accesses = b ∷ c .accesses; answer = c .answer; count = c .count }) (save-before l)
+
+going-not : (z : Status) → (z ≡ Going → ⊥) → isGoing z ≡ false
+going-not z g = go (isGoing z) refl
+  where
+    go : (b : Bool) → isGoing z ≡ b → isGoing z ≡ false
+    go true e = absurd (g (going-is z e))
+    go false e = e
+
+-- THEOREM. Of the call over lists: wherever it stands after any steps, whatever replies they were handed, and behind every row of earlier saves.
+pub stepped-cut : (a : ℕ) (bs : List ℕ) (room : ℕ) → ((i : ℕ) → getD bs i 0 < 256) → (p : Point) → Stands (begin (writePages a bs) [] 0) room p → (earlier : List Save) → Each Precedes earlier → PowerCut (earlier ++ saveAt a bs p ∷ [])
+stepped-cut a bs room octets p s = power-cut-behind (record {
+  octets = all-bytes bs octets;
+  makes = s .makes;
+  counts = ap countIn (s .is);
+  done = λ e. rw (s .is) at (s .done e);
+  stops = λ g dry full. run-goes (stepped-run a bs room octets p s (going-not (p .answer) g)) .stops g dry full;
+})
 
 -- its accesses go to registers: they are the first of a run
 front-loggable : (l m : List Access) → Loggable (l ++ m) → Loggable l
@@ -60,7 +93,8 @@ module _ (a : ℕ) (bs : List ℕ) where
           accesses = p .made;
           is-log = ap (λ (k : ℕ). take k log) u ∙ e;
           to-registers = loggable a bs (p .made) (s .makes);
-          claim = rw (z .status, n) (stepped-cut a bs (length log) (all-bytes bs octets) p s);
+          runs = λ g. rw (z .status, n) (stepped-run a bs (length log) octets p s (rw (z .status) at g));
+          claim = rw (z .status, n) (stepped-cut a bs (length log) octets p s);
         };
         octets = octets;
         point = p;

@@ -1,33 +1,30 @@
--- The power-cut statement, proved of every run of `write_pages` over lists. Assumes nothing.
+-- One save over lists: along its log, on a device and whatever the replies; the array that a cut leaves; and its count. Assumes nothing.
 use mathlib.Core.Path.{_≡_, refl, ap, _∙_, sym}
 use mathlib.Core.Bool.{Bool, true, false, cond}
 use mathlib.Core.Option.{none}
-use mathlib.Core.Logic.{inl}
 use mathlib.Core.List.{List, [], _∷_, _++_, append-nil}
-use Prim.Native.Nat.{ℕ, zero, suc, _+_, _<_}
+use Prim.Native.Nat.{ℕ, zero, suc, _+_}
 use native.Mathlib.Omega.{arith}
 use lib.Dec.{ltb}
 use lib.ListN.{length, take}
 use Rattle.zynq7000.specs.Access.{valueWord}
 use Rattle.zynq7000.specs.declared.qspi.Access.{Access}
-use Rattle.qspi_script.specs.declared.Status.{Status}
-use Rattle.qspi_script.specs.declared.Status.the-variants.{Done, OutOfRange}
+use Rattle.qspi_script.specs.declared.Status.the-variants.{Going, Done, OutOfRange, RepliesEnded, LogFull}
 use Rattle.qspi_calls.specs.Chunks.{Chunk, chunks, Among, here}
-use Rattle.qspi_operation.specs.Machine.{Transfer, State, want, wantAt, next, statusIn, countIn, Result, called, begin, Matches, m-write, Makes, after}
-use Rattle.qspi_operation.proofs.Orders.{run-ended}
+use Rattle.qspi_operation.specs.Machine.{Transfer, State, nothing, want, wantAt, next, statusIn, countIn, begin, Matches, m-write, Makes, after}
 use Rattle.qspi_calls.specs.Calls.{writePages}
 use Rattle.qspi_calls.proofs.WireOrder.{AllBytes}
-use Rattle.power_cut.specs.Flash.{Array, lands, Flash, flash, AfterCut}
-use Rattle.power_cut.specs.Controller.{Device, device, flashOf, AllOut, Trace, still, quiet, step, Rests, rests}
-use Rattle.power_cut.specs.Observer.{closed, Observed, see, sees, fresh, observed}
-use Rattle.power_cut.specs.Statement.{In, total, NextOnly, no-doubt, the-next, Kept, PowerCut}
-use Rattle.power_cut.proofs.Driver.{Phase, draining, dropping, opening, lowering, switching, sending, starting, releasing, waiting, again, taking, closing, raising, leaving, midway, action, isLast, Stage, enables, programs, polls, clears, disables, succeeded, failed, refuses, Driver, at, over, stateOf, startNext, driverAfter, driverStart, next-is, start-is}
-use Rattle.power_cut.proofs.Fits.{Fit, AllFit, Going, Good, good-next, good-driver}
-use Rattle.power_cut.proofs.Levels.{both-set, high-start}
+use Rattle.power_cut.specs.Flash.{Array, lands, Flash, AfterCut}
+use Rattle.power_cut.specs.Controller.{Device, flashOf, Trace, still, quiet, step}
+use Rattle.power_cut.specs.Observer.{closed, Observed, see, sees, observed}
+use Rattle.power_cut.specs.Statement.{In, total, NextOnly, no-doubt, the-next, Save}
+use Rattle.power_cut.proofs.Driver.{Phase, draining, dropping, opening, lowering, switching, sending, starting, releasing, waiting, again, taking, closing, raising, leaving, midway, action, isLast, Stage, enables, programs, polls, clears, disables, succeeded, failed, refuses, Past, outset, Driver, at, over, stateOf, startNext, driverAfter, driverStart, next-is, start-is}
+use Rattle.power_cut.proofs.Fits.{Fit, Good, good-next, good-driver}
+use Rattle.power_cut.proofs.Levels.{high-start}
 use Rattle.power_cut.proofs.Watch.{risenAt, doubtAt, view, view-start, levelAfter, watch}
-use Rattle.power_cut.proofs.Lands.{applied, lands-out, spared, beside, Ordered, applied-in, applied-out, chunks-ordered, chunks-total, ordered-front, ordered-seam}
-use Rattle.power_cut.proofs.Control.{Up, Held, held, c-release}
-use Rattle.power_cut.proofs.OnDevice.{Calm, calm, Ready, ready, Works, under, past, FlashAt, OnDevice, during, silent, begins, advance}
+use Rattle.power_cut.proofs.Lands.{applied, lands-out, spared, beside, chunks-total}
+use Rattle.power_cut.proofs.Control.{Held, held, c-release}
+use Rattle.power_cut.proofs.OnDevice.{Calm, calm, Ready, ready, Works, under, past, FlashAt, OnDevice, during, silent, advance}
 use Rattle.power_cut.proofs.OnDevice as on
 
 -- ---- the logs that a machine makes
@@ -56,11 +53,11 @@ good-driven whole d (a ∷ l) g = good-driven whole (driverAfter d (valueWord a)
 
 -- ---- what the log shows of finished chunks, whatever the replies
 
-abbrev finishedBy : Driver → List Chunk
-finishedBy (at s p taken c l k) = k
-finishedBy (over a l k) = k
+abbrev pub finishedBy : Driver → List Chunk
+finishedBy (at s p taken c l k) = k .chunks
+finishedBy (over a l k) = k .chunks
 
-finished-by : (early : List Chunk) (d : Driver) (h : Bool) → view early d h .finished ≡ early ++ finishedBy d
+pub finished-by : (early : List Chunk) (d : Driver) (h : Bool) → view early d h .finished ≡ early ++ finishedBy d
 finished-by early (at s p taken c l k) h = refl
 finished-by early (over a l k) h = refl
 
@@ -79,7 +76,7 @@ sees-all early whole d h (a ∷ l) g f =
 -- ---- the whole run against the device
 
 -- on a device chip select stays low from the fall to the rise
-stays-low : {P : ℕ → Type 0} {n : ℕ} {x : Transfer} {p : Phase} {taken : List ℕ} {f : Flash} {d : Device} (s : Stage) (c : Chunk) (l k : List Chunk) {a : Access}
+stays-low : {P : ℕ → Type 0} {n : ℕ} {x : Transfer} {p : Phase} {taken : List ℕ} {f : Flash} {d : Device} (s : Stage) (c : Chunk) (l : List Chunk) (k : Past) {a : Access}
     → Held P n x p taken f d → Matches (wantAt (midway p) (action x p)) a → levelAfter (at s p taken c l k) (valueWord a) false ≡ false
 stays-low {p = draining} s c l k h m = refl
 stays-low {p = dropping} s c l k h m = refl
@@ -101,13 +98,13 @@ module _ (early : List Chunk) (old : Array) where
   step-shows whole {a = a} g (during {s} {p} {taken} {c} {l} {k} {f} y z) m =
       watch early whole (at s p taken c l k) false a g m ∙ ap (view early (driverAfter (at s p taken c l k) (valueWord a))) (stays-low s c l k z m)
 
-  pub along : (whole : List Chunk) {d e : Device} {l : List Access} (s : Driver) → Good whole s → OnDevice early old s d → Makes (stateOf s) l → Trace AllOut d l e
+  pub along : (whole : List Chunk) {d e : Device} {l : List Access} (s : Driver) → Good whole s → OnDevice early old s d → Makes (stateOf s) l → Trace d l e
       → OnDevice early old (driven s l) e × (sees (view early s false) l ≡ view early (driven s l) false)
   unfolding sees
   along whole s g y f still = (y, refl)
   along whole s g y f (quiet z t) = along whole s g (silent early old y z) f t
-  along whole s g y f (step {a = a} {l = l} i o t) =
-      let r = along whole (driverAfter s (valueWord a)) (good-next whole s (valueWord a) g) (advance early old whole g y (f .0) i o) (follows-on s a l f) t in
+  along whole s g y f (step {a = a} {l = l} i t) =
+      let r = along whole (driverAfter s (valueWord a)) (good-next whole s (valueWord a) g) (advance early old whole g y (f .0) i) (follows-on s a l f) t in
       (r .0, ap (λ (x : Observed). sees x l) (step-shows whole g y (f .0)) ∙ r .1)
 
 -- ---- the claim at a state
@@ -150,11 +147,7 @@ next-only polls b c l f = the-one f
 next-only clears b c l f = the-one f
 next-only disables b c l f = the-one f
 
--- the chunk in doubt is the next: it holds no byte of a finished one, and none outside it
-clear-done : (q : List Chunk) (k : List Chunk) (c : Chunk) (l : List Chunk) {b : Chunk} (i : ℕ) → Fit c → NextOnly q (c ∷ l) → Ordered (k ++ c ∷ l) → Among b k → i < length (b .bytes) → Clear q (b .address + i)
-clear-done [] k c l i f n o m h = tt
-clear-done (d ∷ q) k c l {b} i f (the-next x y) o m h = lands-out c (b .address + i) f (inl (omega (arith, ordered-seam k c l o m)))
-
+-- the chunk in doubt is the next: it holds no byte outside it
 clear-out : (q : List Chunk) (c : Chunk) (l : List Chunk) (x : ℕ) → Fit c → NextOnly q (c ∷ l) → ((d : Chunk) → Among d q → In x d → ⊥) → Clear q x
 clear-out [] c l x f n h = tt
 clear-out (d ∷ q) c l x f (the-next y z) h = lands-out c x f (beside x (c .address) (length (c .bytes)) (h c here))
@@ -176,74 +169,50 @@ risen-last closing = refl
 risen-last (raising w) = refl
 risen-last leaving = refl
 
-module _ (a : ℕ) (bs : List ℕ) (old new : Array) where
-  kept-going : (s : Stage) (p : Phase) (taken : List ℕ) (c : Chunk) (l k : List Chunk) (f : Flash) → Going (chunks a bs) s p taken c l k → FlashAt s (risenAt p false) (applied k old) c f → AfterCut f new
-      → Kept a bs old (view [] (at s p taken c l k) false) new
-  kept-going s p taken c l k f g y z =
-      let o : Ordered (k ++ c ∷ l) = rw (g .parts) (chunks-ordered a bs) in
-      let b = risenAt p false in
-      let w = next-only s b c l (g .fits) in
-      record {
-        left = c ∷ l;
-        first = g .parts;
-        next = w;
-        written = λ d m i e. stage-cut s b (applied k old) new c f y z (d .address + i) (clear-done (doubtAt s b c) k c l i (g .fits) w o m e) ∙ applied-in k old i (g .past) (ordered-front k (c ∷ l) o) m e;
-        same = λ x m e. stage-cut s b (applied k old) new c f y z x (clear-out (doubtAt s b c) c l x (g .fits) w e) ∙ applied-out k old x (g .past) m;
-      }
+-- a byte that is not in doubt is what the finished chunks left
+pub bytes-at : (early whole : List Chunk) (old new : Array) {s : Driver} {e : Device} (x : ℕ) → Good whole s → OnDevice early old s e → AfterCut (flashOf e) new → ((c : Chunk) → Among c (view early s false .doubt) → In x c → ⊥)
+    → new x ≡ applied (early ++ finishedBy s) old x
+bytes-at early whole old new x g (during {s} {p} {taken} {c} {l} {k} {f} y (held w)) z h =
+    let b = risenAt p false in
+    let y′ : FlashAt s b (applied (early ++ k .chunks) old) c f = rw (risen-last p) y in
+    stage-cut s b (applied (early ++ k .chunks) old) new c f y′ z x (clear-out (doubtAt s b c) c l x (g .fits) (next-only s b c l (g .fits)) h)
+bytes-at early whole old new x g (on.ended nf u y) z h = calm-cut new y z x
 
-  kept-rest : (k l : List Chunk) {f : Flash} → k ++ l ≡ chunks a bs → AllFit k → Calm (applied k old) f → AfterCut f new → Kept a bs old (record { transfer = closed; up = true; doubt = []; finished = k }) new
-  kept-rest k l e i y z =
-      let o : Ordered (k ++ l) = rw e (chunks-ordered a bs) in
-      record {
-        left = l;
-        first = e;
-        next = no-doubt;
-        written = λ b m j e₁. calm-cut new y z (b .address + j) ∙ applied-in k old j i (ordered-front k l o) m e₁;
-        same = λ x m e₁. calm-cut new y z x ∙ applied-out k old x i m;
-      }
+-- the chunks finished are the first, and the one in doubt is the next
+pub record Parted (early whole : List Chunk) (s : Driver) : Type 0 where
+  pub left : List Chunk
+  pub parts : finishedBy s ++ left ≡ whole
+  pub next : NextOnly (view early s false .doubt) left
 
-  kept : {s : Driver} {e : Device} → Good (chunks a bs) s → OnDevice [] old s e → AfterCut (flashOf e) new → Kept a bs old (view [] s false) new
-  kept g (during {s} {p} {taken} {c} {l} {k} {f} y (held w)) z = kept-going s p taken c l k f g (rw (risen-last p) y) z
-  kept g (on.ended {a = succeeded} {l} {k} nf u y) z = kept-rest k l (g .0 .parts) (g .0 .past) y z
-  kept g (on.ended {a = failed} nf u y) z = absurd nf
-  kept g (on.ended {a = refuses b} {l} {k} nf u y) z = kept-rest k l (g .0 .parts) (g .0 .past) y z
+pub parted : (early whole : List Chunk) (old : Array) {s : Driver} {e : Device} → Good whole s → OnDevice early old s e → Parted early whole s
+parted early whole old g (during {s} {p} {taken} {c} {l} {k} y w) = record { left = c ∷ l; parts = g .parts; next = next-only s (risenAt p false) c l (g .fits) }
+parted early whole old g (on.ended {a = succeeded} {l} nf u y) = record { left = l; parts = g .0 .parts; next = no-doubt }
+parted early whole old g (on.ended {a = failed} nf u y) = absurd nf
+parted early whole old g (on.ended {a = refuses b} {l} nf u y) = record { left = l; parts = g .0 .parts; next = no-doubt }
 
--- ---- the start, and the whole
+-- ---- its count, whatever the replies
 
-start-shows : (a : ℕ) (bs : List ℕ) → view [] (driverStart a bs) false ≡ fresh
-unfolding driverStart
-start-shows a bs = go (ltb 16777215 (a + length bs))
-  where
-    go : (b : Bool) → view [] (cond b (over (refuses OutOfRange) (chunks a bs) []) (startNext (chunks a bs) [])) false ≡ fresh
-    go true = refl
-    go false = view-start [] (chunks a bs) [] false
-
-start-device : (a : ℕ) (bs : List ℕ) (old : Array) {c : ℕ} {w r : List ℕ} {latch : Bool} → Up c → OnDevice [] old (driverStart a bs) (device c [] [] w r (flash old latch none))
-unfolding driverStart applied
-start-device a bs old {c} {w} {r} {latch} u = go (ltb 16777215 (a + length bs))
-  where
-    go : (b : Bool) → OnDevice [] old (cond b (over (refuses OutOfRange) (chunks a bs) []) (startNext (chunks a bs) [])) (device c [] [] w r (flash old latch none))
-    go true = on.ended tt u calm
-    go false = begins [] old (chunks a bs) [] u calm
-
-cut-at : (a : ℕ) (bs : List ℕ) → AllBytes bs → (l : List Access) → Makes (stateOf (driverStart a bs)) l → {d e : Device} (old new : Array) → Rests old d → Trace AllOut d l e → AfterCut (flashOf e) new → Kept a bs old (observed l) new
-unfolding observed
-cut-at a bs h l f {d} {e} old new (rests {c} {w} {r} {latch} u₁₀ u₁₄ u₁₅ u₁₆) t z =
-    let u : Up c = record { up = u₁₀; unstarted = u₁₆; by-hand = both-set u₁₄ u₁₅ } in
-    let o = along [] old (chunks a bs) (driverStart a bs) (good-driver a bs h) (start-device a bs old u) f t in
-    let k = kept a bs old new (good-driven (chunks a bs) (driverStart a bs) l (good-driver a bs h)) (o .0) z in
-    let q : sees fresh l ≡ view [] (driven (driverStart a bs) l) false = ap (λ (x : Observed). sees x l) (sym (start-shows a bs)) ∙ o .1 in
-    rw q k
-
-done-of : (d : Driver) → countIn (stateOf d) ≡ total (finishedBy d)
+pub done-of : (d : Driver) → countIn (stateOf d) ≡ total (finishedBy d)
 done-of (at s p taken c l k) = refl
 done-of (over a l k) = refl
 
 whole-done : (whole : List Chunk) (d : Driver) → Good whole d → statusIn (stateOf d) ≡ Done → countIn (stateOf d) ≡ total whole
 whole-done whole (at s p taken c l k) g e = let y : _≡_ {A = ℕ} 0 1 = cc in absurd (omega (arith, y))
-whole-done whole (over succeeded l k) g e = ap total (sym (append-nil k) ∙ ap (λ (z : List Chunk). k ++ z) (sym (g .1)) ∙ g .0 .parts)
+whole-done whole (over succeeded l k) g e = ap total (sym (append-nil (k .chunks)) ∙ ap (λ (z : List Chunk). k .chunks ++ z) (sym (g .1)) ∙ g .0 .parts)
 whole-done whole (over failed l k) g e = let y : _≡_ {A = ℕ} 0 1 = cc in absurd (omega (arith, y))
 whole-done whole (over (refuses b) l k) g e = absurd (g .1 e)
+
+-- what is seen before the first access of a save, after these chunks
+abbrev pub between : List Chunk → Observed
+between early = record { transfer = closed; up = true; doubt = []; finished = early }
+
+pub start-shows : (early : List Chunk) (a : ℕ) (bs : List ℕ) → view early (driverStart a bs) false ≡ between early
+unfolding driverStart
+start-shows early a bs = go (ltb 16777215 (a + length bs))
+  where
+    go : (b : Bool) → view early (cond b (over (refuses OutOfRange) (chunks a bs) outset) (startNext (chunks a bs) outset)) false ≡ between early
+    go true = ap between (append-nil early)
+    go false = view-start early (chunks a bs) outset false ∙ ap between (append-nil early)
 
 -- of every log that the call makes, whatever the replies
 pub viewed : (a : ℕ) (bs : List ℕ) → AllBytes bs → (l : List Access) → Makes (begin (writePages a bs) [] 0) l → Viewed [] (driven (driverStart a bs) l) (observed l)
@@ -251,38 +220,43 @@ unfolding observed
 viewed a bs h l f =
     let f′ : Makes (stateOf (driverStart a bs)) l = rw (start-is a bs) at f in
     let v = sees-all [] (chunks a bs) (driverStart a bs) false l (good-driver a bs h) f′ in
-    record { level = v .level; is = ap (λ (o : Observed). sees o l) (sym (start-shows a bs)) ∙ v .is }
+    record { level = v .level; is = ap (λ (o : Observed). sees o l) (sym (start-shows [] a bs)) ∙ v .is }
 
--- the statement of a result
-abbrev pub PowerCutOf : ℕ → List ℕ → Result → Type 0
-PowerCutOf a bs r = PowerCut a bs (r .log) (r .answer) (countIn (r .state))
+-- a save whose accesses are those that `write_pages` makes, each the one that was due; it answers Done only where its script does, and has come to its end unless it goes on or 23 or 24 ended it
+pub record Goes (c : Save) : Type 0 where
+  pub octets : AllBytes (c .bytes)
+  pub makes : Makes (begin (writePages (c .address) (c .bytes)) [] 0) (c .accesses)
+  pub counts : c .count ≡ countIn (after (begin (writePages (c .address) (c .bytes)) [] 0) (c .accesses))
+  pub done : c .answer ≡ Done → statusIn (after (begin (writePages (c .address) (c .bytes)) [] 0) (c .accesses)) ≡ Done
+  pub stops : (c .answer ≡ Going → ⊥) → (c .answer ≡ RepliesEnded → ⊥) → (c .answer ≡ LogFull → ⊥) → want (after (begin (writePages (c .address) (c .bytes)) [] 0) (c .accesses)) ≡ nothing
 
--- of every log that the call makes, where it answers Done only where its script does
-pub power-cut-of : (a : ℕ) (bs : List ℕ) → AllBytes bs → (l : List Access) (answer : Status) (s : State) → Makes (begin (writePages a bs) [] 0) l → s ≡ after (begin (writePages a bs) [] 0) l
-    → (answer ≡ Done → statusIn s ≡ Done) → PowerCut a bs l answer (countIn s)
-unfolding observed
-power-cut-of a bs h l answer s f₀ e₀ done = record {
-  cut = λ k i before after₁ old new y t z. cut-at a bs h (take k l) (follows-take k (stateOf d) l f) old new y t z;
-  counted = ap countIn ends-in ∙ done-of (driven d l) ∙ ap total (sym shown);
-  whole = λ e. ap countIn ends-in ∙ whole-done (chunks a bs) (driven d l) (good-driven (chunks a bs) d l g) (ap statusIn (sym ends-in) ∙ done e) ∙ chunks-total a bs;
-}
-  where
-    d : Driver
-    d = driverStart a bs
+module _ (c : Save) where
+  -- where it starts, and where it stands after these accesses
+  abbrev pub starts : Driver
+  starts = driverStart (c .address) (c .bytes)
 
-    f : Makes (stateOf d) l
-    f = rw (start-is a bs) at f₀
+  abbrev pub stands : List Access → Driver
+  stands l = driven starts l
 
-    g : Good (chunks a bs) d
-    g = good-driver a bs h
+  pub good-stands : (l : List Access) → Goes c → Good (chunks (c .address) (c .bytes)) (stands l)
+  good-stands l g = good-driven (chunks (c .address) (c .bytes)) starts l (good-driver (c .address) (c .bytes) (g .octets))
 
-    ends-in : s ≡ stateOf (driven d l)
-    ends-in = e₀ ∙ ap (λ (z : State). after z l) (start-is a bs) ∙ driven-is d l
+  pub makes-from : Goes c → Makes (stateOf starts) (c .accesses)
+  makes-from g = rw (start-is (c .address) (c .bytes)) at (g .makes)
 
-    shown : sees fresh l .finished ≡ finishedBy (driven d l)
-    shown = let v = viewed a bs h l f₀ in ap (λ (o : Observed). o .finished) (v .is) ∙ finished-by [] (driven d l) (v .level)
+  pub ends-in : after (begin (writePages (c .address) (c .bytes)) [] 0) (c .accesses) ≡ stateOf (stands (c .accesses))
+  ends-in = ap (λ (z : State). after z (c .accesses)) (start-is (c .address) (c .bytes)) ∙ driven-is starts (c .accesses)
 
-pub power-cut : (a : ℕ) (bs : List ℕ) → AllBytes bs → (room : ℕ) (replies : List ℕ) → PowerCutOf a bs (called (writePages a bs) room replies)
-power-cut a bs h room rs =
-    let m = run-ended room (begin (writePages a bs) [] 0) rs in
-    power-cut-of a bs h (called (writePages a bs) room rs .log) (called (writePages a bs) room rs .answer) (called (writePages a bs) room rs .state) (m .makes) (m .is) (m .done)
+  pub count-is : Goes c → c .count ≡ total (finishedBy (stands (c .accesses)))
+  count-is g = g .counts ∙ ap countIn ends-in ∙ done-of (stands (c .accesses))
+
+  pub counted-by : Goes c → c .count ≡ total (observed (c .accesses) .finished)
+  counted-by g =
+      let v = viewed (c .address) (c .bytes) (g .octets) (c .accesses) (g .makes) in
+      count-is g ∙ ap total (sym (ap (λ (o : Observed). o .finished) (v .is) ∙ finished-by [] (stands (c .accesses)) (v .level)))
+
+  pub whole-by : Goes c → c .answer ≡ Done → c .count ≡ length (c .bytes)
+  whole-by g e =
+      g .counts ∙ ap countIn ends-in
+      ∙ whole-done (chunks (c .address) (c .bytes)) (stands (c .accesses)) (good-stands (c .accesses) g) (ap statusIn (sym ends-in) ∙ g .done e)
+      ∙ chunks-total (c .address) (c .bytes)

@@ -21,7 +21,7 @@ use Rattle.power_cut.specs.Controller.{tx, registerAt, bytesOut, high, i
 use Rattle.power_cut.specs.Observer.{Transfer, closed, opened, unread, Observed, commanded, raised, configWritten, isClean, enableWritten, seenWrite, seenRead, see}
 use Rattle.power_cut.specs.Observer as observer
 use Rattle.qspi_calls.proofs.Phases.{words}
-use Rattle.power_cut.proofs.Driver.{Phase, draining, dropping, opening, lowering, switching, sending, starting, releasing, waiting, again, taking, closing, raising, leaving, sendNext, takeNext, phaseAfter, Stage, enables, programs, polls, clears, disables, transferOf, Ending, succeeded, failed, refuses, Driver, at, over, stateOf, Verdict, accepts, refusesWith, verdictOn, startOn, startNext, settled, stageAfter, driverAfter}
+use Rattle.power_cut.proofs.Driver.{Phase, draining, dropping, opening, lowering, switching, sending, starting, releasing, waiting, again, taking, closing, raising, leaving, sendNext, takeNext, phaseAfter, Stage, enables, programs, polls, clears, disables, transferOf, Ending, succeeded, failed, refuses, Past, joined, Driver, at, over, stateOf, Verdict, accepts, refusesWith, verdictOn, startOn, startNext, settled, stageAfter, driverAfter}
 use Rattle.power_cut.proofs.Fits.{Fit, Going, Good}
 use Rattle.power_cut.proofs.Levels.{high-put, high-clear}
 
@@ -203,31 +203,31 @@ ends-with false s c reply f = rise-names s c reply f
 
 -- after the chunks of earlier calls
 module _ (early : List Chunk) where
-  abbrev showing : Transfer → Bool → List Chunk → List Chunk → Observed
-  showing t h q k = record { transfer = t; up = h; doubt = q; finished = early ++ k }
+  abbrev showing : Transfer → Bool → List Chunk → Past → Observed
+  showing t h q k = record { transfer = t; up = h; doubt = q; finished = early ++ k .chunks }
 
   abbrev pub view : Driver → Bool → Observed
   view (at s p taken c l k) h = showing (transferAt s c p taken) (upAt p h) (doubtAt s (risenAt p h) c) k
   view (over a l k) h = showing closed true (doubtEnd a l) k
 
-  view-on : (y : Verdict) (c : Chunk) (l k : List Chunk) (h : Bool) → view (startOn y c l k) h ≡ showing closed true [] k
+  view-on : (y : Verdict) (c : Chunk) (l : List Chunk) (k : Past) (h : Bool) → view (startOn y c l k) h ≡ showing closed true [] k
   view-on accepts c l k h = refl
   view-on (refusesWith a) c l k h = refl
 
-  pub view-start : (l k : List Chunk) (h : Bool) → view (startNext l k) h ≡ showing closed true [] k
+  pub view-start : (l : List Chunk) (k : Past) (h : Bool) → view (startNext l k) h ≡ showing closed true [] k
   unfolding startNext
   view-start [] k h = refl
   view-start (c ∷ l) k h = view-on (verdictOn c) c l k h
 
   -- a transfer closes
-  settled-view : (e b : Bool) (t : Transfer) (c : Chunk) (l k : List Chunk) (h : Bool) → observer.closing (not e && not b) (showing t true (c ∷ []) k) ≡ view (settled e b c l k) h
+  settled-view : (e b : Bool) (t : Transfer) (c : Chunk) (l : List Chunk) (k : Past) (h : Bool) → observer.closing (not e && not b) (showing t true (c ∷ []) k) ≡ view (settled e b c l k) h
   unfolding observer.closing settled
   settled-view true b t c l k h = refl
   settled-view false true t c l k h = refl
   settled-view false false t c l k h =
-      ap (λ (z : List Chunk). record { transfer = closed; up = true; doubt = []; finished = z }) (append-assoc early k (c ∷ [])) ∙ sym (view-start l (k ++ c ∷ []) h)
+      ap (λ (z : List Chunk). record { transfer = closed; up = true; doubt = []; finished = z }) (append-assoc early (k .chunks) (c ∷ [])) ∙ sym (view-start l (joined k c) h)
 
-  closing-view : (s : Stage) (taken : List ℕ) (c : Chunk) (l k : List Chunk) (h : Bool) → Fit c → length taken ≡ transferOf s c .replies
+  closing-view : (s : Stage) (taken : List ℕ) (c : Chunk) (l : List Chunk) (k : Past) (h : Bool) → Fit c → length taken ≡ transferOf s c .replies
       → observer.closing (isClean (opened (asked s c) (newest taken))) (showing (opened (asked s c) (newest taken)) true (doubtAt s true c) k) ≡ view (stageAfter s taken c l k) h
   unfolding observer.closing isClean isStatusRead bytesOut stageAfter settled
   closing-view enables taken c l k h f e = refl
@@ -236,7 +236,7 @@ module _ (early : List Chunk) where
   closing-view clears taken c l k h f e = refl
   closing-view disables taken c l k h f e = refl
 
-  module _ (s : Stage) (c : Chunk) (l k : List Chunk) (h : Bool) where
+  module _ (s : Stage) (c : Chunk) (l : List Chunk) (k : Past) (h : Bool) where
     -- nothing is seen where a reply picks one of two phases that look the same
     either : (b : Bool) (p q : Phase) (taken : List ℕ) (o : Observed) → view (at s p taken c l k) h ≡ o → view (at s q taken c l k) h ≡ o → o ≡ view (at s (cond b p q) taken c l k) h
     either true p q taken o e i = sym e
@@ -252,7 +252,7 @@ module _ (early : List Chunk) where
     take-view (suc n) taken = refl
 
   -- THEOREM. Of an access that is due the observer sees what the driver's next state shows.
-  pub watch-at : (whole : List Chunk) (s : Stage) (p : Phase) (taken : List ℕ) (c : Chunk) (l k : List Chunk) (h : Bool) (a : Access) → Going whole s p taken c l k → Matches (want (stateOf (at s p taken c l k))) a
+  pub watch-at : (whole : List Chunk) (s : Stage) (p : Phase) (taken : List ℕ) (c : Chunk) (l : List Chunk) (k : Past) (h : Bool) (a : Access) → Going whole s p taken c l k → Matches (want (stateOf (at s p taken c l k))) a
       → see (view (at s p taken c l k) h) a ≡ view (driverAfter (at s p taken c l k) (valueWord a)) (levelAfter (at s p taken c l k) (valueWord a) h)
   unfolding see seenRead seenWrite configWritten enableWritten registerAt driverAfter phaseAfter raised
   watch-at whole s draining taken c l k h (access.Read o v) g m-read = either s c l k h (waits v) dropping opening taken _ refl refl

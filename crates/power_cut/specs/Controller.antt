@@ -2,7 +2,7 @@
 -- from that section unless another is named.
 use Prim.Native.Nat.{ℕ}
 use mathlib.Core.Path.{_≡_}
-use mathlib.Core.Bool.{Bool, true, false, cond, _&&_}
+use mathlib.Core.Bool.{Bool, true, false, cond, not, _&&_}
 use mathlib.Core.Option.{none}
 use mathlib.Core.List.{List, [], _∷_, _++_}
 use lib.Dec.{eqb}
@@ -69,6 +69,13 @@ pub data Device : Type 0 where
 
 abbrev pub flashOf : Device → Flash
 flashOf (device c t u w r f) = f
+
+abbrev pub isHigh : Device → Bool
+isHigh (device c t u w r f) = high c
+
+-- the words that wait or are going out
+abbrev pub wordsLeft : Device → List (List ℕ)
+wordsLeft (device c t u w r f) = t ++ u
 
 -- the reply to a word: what it shows after these bytes. All that is not said here is free: every bit of a reply to another command, and the
 -- other bits of a status reply.
@@ -157,29 +164,25 @@ unfolding GivenBy registerAt
 Gives d (access.Read o v) = GivenBy (registerAt o) v d
 Gives d (access.Write o v) = Unit {0}
 
--- ---- demand 3's premise on words: "all words have gone out before chip select rises"
-
-abbrev pub NoneLeft : Register → ℕ → Device → Type 0
-NoneLeft config v (device c t u w r f) = high c ≡ false → high v ≡ true → t ++ u ≡ []
-NoneLeft status v d = Unit {0}
-NoneLeft enable v d = Unit {0}
-NoneLeft rx v d = Unit {0}
-NoneLeft (tx width) v d = Unit {0}
-NoneLeft other v d = Unit {0}
-
-unfoldable pub AllOut : Device → Access → Type 0
-unfolding registerAt
-AllOut d (access.Read o v) = Unit {0}
-AllOut d (access.Write o v) = NoneLeft (registerAt o) v d
-
 -- ---- runs
 
--- from a device, by these accesses and no others ("nobody else drives them"), with anything silent between them, to a device; each access as
--- far as a premise allows
-pub data Trace (Allowed : Device → Access → Type 0) : Device → List Access → Device → Type 0 where
-  still : {d : Device} → Trace Allowed d [] d
-  quiet : {d e g : Device} {l : List Access} → Silent d e → Trace Allowed e l g → Trace Allowed d l g
-  step : {d g : Device} {a : Access} {l : List Access} → Gives d a → Allowed d a → Trace Allowed (effect d a) l g → Trace Allowed d (a ∷ l) g
+-- from a device, by these accesses and no others ("nobody else drives them"), with anything silent between them, to a device
+pub data Trace : Device → List Access → Device → Type 0 where
+  still : {d : Device} → Trace d [] d
+  quiet : {d e g : Device} {l : List Access} → Silent d e → Trace e l g → Trace d l g
+  step : {d g : Device} {a : Access} {l : List Access} → Gives d a → Trace (effect d a) l g → Trace d (a ∷ l) g
+
+-- chip select rises: it is low before the access and high after it
+unfoldable pub raises : Device → Access → Bool
+unfolding effect
+raises d a = not (isHigh d) && isHigh (effect d a)
+
+-- "all words have gone out before chip select rises" (demand 3): at each rise of the trace no word waits or is going out
+unfoldable pub AllOut : {d g : Device} {l : List Access} → Trace d l g → Type 0
+unfolding raises
+AllOut still = Unit {0}
+AllOut (quiet s t) = AllOut t
+AllOut (step {d} {a = a} g t) = (raises d a ≡ true → wordsLeft d ≡ []) × AllOut t
 
 -- "At the start of a run bits 10, 14 and 15 are set, and no TX word waits or is going out"; bit 16 reads zero. The flash holds the array and
 -- is idle (demand 3); no rule here protects a byte. RX words and latch are free.

@@ -3,7 +3,10 @@ pub mod Controller
 pub mod Observer
 pub mod SectorObserver
 pub mod Statement
+pub mod Row
+pub mod OneCall
 pub mod Promise
 pub mod SectorPromise
 pub mod Saving
 pub mod Witness
+pub mod WordsOut

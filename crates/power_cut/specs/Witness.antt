@@ -1,10 +1,11 @@
 -- What it takes for the premises of the power-cut statement to be met: demand 3, "Premises: ..". `possible` in proofs/ shows it of every call,
--- those that rules 4 and 5 of document 01 refuse after finished chunks included, from every device at rest and at every cut point.
+-- those that rules 4 and 5 of document 01 refuse after finished chunks included, from every device at rest and at every cut point;
+-- `possible-row` of every row of them.
 use Prim.Native.Nat.{ℕ, _+_, _%_, _≤_}
 use mathlib.Core.Path.{_≡_}
 use mathlib.Core.Bool.{cond}
 use mathlib.Core.Option.{Option, none, some}
-use mathlib.Core.List.{List, [], _∷_, _++_}
+use mathlib.Core.List.{List, [], _∷_, _++_, map}
 use lib.Dec.{ltb, eqb}
 use lib.ListN.{length, take}
 use Rattle.zynq7000.specs.declared.qspi.Access.{Access}
@@ -15,8 +16,9 @@ use Rattle.qspi_operation.specs.Machine.{Result, countIn, called}
 use Rattle.qspi_calls.specs.Chunks.{Chunk, chunks}
 use Rattle.qspi_calls.specs.Calls.{writePages}
 use Rattle.power_cut.specs.Flash.{Array, AfterCut}
-use Rattle.power_cut.specs.Controller.{Device, flashOf, AllOut, Trace}
-use Rattle.power_cut.specs.Statement.{total}
+use Rattle.power_cut.specs.Controller.{Device, flashOf, Trace}
+use Rattle.power_cut.specs.Statement.{total, Save, Each, rowLog}
+use Rattle.power_cut.specs.Row.{Precedes}
 
 -- ---- how a call ends that the state does not end (21 to 24), and the chunks finished then
 
@@ -56,7 +58,7 @@ finishes a bs = cond (ltb lastEnd (a + length bs)) [] (doneOf (chunks a bs))
 -- those of `cut` after k accesses: a trace, and an array that the cut leaves
 pub record Met (before : Device) (log : List Access) (k : ℕ) : Type 0 where
   pub after : Device
-  pub trace : Trace AllOut before (take k log) after
+  pub trace : Trace before (take k log) after
   pub new : Array
   pub left : AfterCut (flashOf after) new
 
@@ -71,3 +73,18 @@ pub record Possible (a : ℕ) (bs : List ℕ) (before : Device) : Type 0 where
   pub replies : List ℕ
   pub accesses : ℕ
   pub comes : (room : ℕ) (more : List ℕ) → accesses ≤ room → Comes a bs before (called (writePages a bs) room (replies ++ more))
+
+-- ---- of a row
+
+-- what a call is handed
+abbrev pub asks : Save → ℕ × List ℕ
+asks c = (c .address, c .bytes)
+
+-- a row of these calls, each with a room and replies with which it ends by neither 23 nor 24, that meets the premises at each of its cut points
+pub record PossibleRow (calls : List (ℕ × List ℕ)) (before : Device) : Type 0 where
+  pub row : List Save
+  pub of-calls : map asks row ≡ calls
+  pub precede : Each Precedes row
+  pub answers : Each (λ c. c .answer ≡ comesTo (c .address) (c .bytes)) row
+  pub counts : Each (λ c. c .count ≡ total (finishes (c .address) (c .bytes))) row
+  pub met : (k : ℕ) → Met before (rowLog row) k

@@ -1,5 +1,6 @@
 -- The numbers are those of the save, and the power-cut statement is its own. Assumes nothing.
 use mathlib.Core.Path.{ap, _∙_}
+use mathlib.Core.List.{[]}
 use Rattle.qspi_abi.specs.Numbers.{pages}
 use Rattle.qspi_abi.proofs.Outputs as outputs
 use borrow.Author.Needs.{needs}
@@ -29,7 +30,7 @@ returns c =
       c .pages-out .ensures ∙ ap pages (w .ensures .0),
       (
         w .ensures .1 .0,
-        record { answer = w .result; numbers = c .pages-out .ensures; saved = w .ensures .1 .1; whole = outputs.zero-done (w .result) (c .pages-out .ensures) (w .ensures .1 .1 .claim .whole) },
+        record { answer = w .result; numbers = c .pages-out .ensures; saved = w .ensures .1 .1; whole = outputs.zero-done (w .result) (c .pages-out .ensures) (w .ensures .1 .1 .claim [] tt .whole .0) },
       ),
     )
 
