@@ -1,21 +1,14 @@
 -- `cut_cases::cuts` is safe and ends: the cut's number rises to the number of accesses. Assumes nothing.
 use Prim.Native.Nat.{_-_}
 use native.Mathlib.Omega.{arith}
-use borrow.Author.Needs.{needs}
 use Rattle.cut_cases.proofs.cuts.Statement.{statement}
 use Rattle.cut_cases.proofs.cuts.Tie as tie
 
 abbrev Inv-loop : tie.InvT-loop
-Inv-loop number address «data» replies all k₀ k = Unit {0}
+Inv-loop row all k₀ k = Unit {0}
 
 abbrev μ-loop : tie.MeasureT-loop
-μ-loop number address «data» replies all k₀ k = all - k
-
-slice-aggregate-header : tie.Need-slice-aggregate-header Inv-loop μ-loop
-slice-aggregate-header c = search needs
-
-header-requires : tie.Need-header-requires Inv-loop μ-loop
-header-requires c κs = tt
+μ-loop row all k₀ k = all - k
 
 loop-holds : tie.Need-loop-holds Inv-loop μ-loop
 loop-holds c = tt
@@ -44,8 +37,6 @@ cuts-spec =
     (tie.spec
     Inv-loop
     μ-loop
-    slice-aggregate-header
-    header-requires
     loop-holds
     point-requires
     add-k
