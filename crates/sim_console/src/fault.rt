@@ -4,7 +4,7 @@ use printing::decimal;
 use printing::entry;
 use printing::text;
 
-const WORDS: [u8; 544] = *b"\
+const WORDS: [u8; 673] = *b"\
     |\
     the input has more than 32767 bytes|\
     the line has more than 1024 bytes|\
@@ -26,6 +26,10 @@ const WORDS: [u8; 544] = *b"\
     outside of the 131072 bytes from the start of the call's sector on|\
     more than 300 sectors|\
     outside of the 524288 bytes from the list's lowest sector on|\
+    no call is named before it|\
+    no call is named behind it|\
+    takes no value|\
+    outside of the 524288 bytes from the row's lowest sector on|\
 ";
 
 pub const NOTHING: usize = 0;
@@ -69,6 +73,14 @@ pub const OUTSIDE: usize = 18;
 pub const TOO_MANY_SECTORS: usize = 19;
 
 pub const OUTSIDE_OF_LIST: usize = 20;
+
+pub const NO_CALL_BEFORE: usize = 21;
+
+pub const NO_CALL_BEHIND: usize = 22;
+
+pub const TAKES_NONE: usize = 23;
+
+pub const OUTSIDE_OF_ROW: usize = 24;
 
 fn name(item: usize) {
     if item < items::UNKNOWN {

@@ -1,8 +1,9 @@
 // The items of a request, by their places in the table of their names. What the lines say of them stands
 // in one lent slice: the value of each; the line that each was on, 0 where there was none; which line was
-// read last, of which item; and the entries of the list of sectors, whose value is how many there are.
-pub const NAMES: [u8; 70] = *b"\
-    call|address|data|length|dummy|busy|gap|log|replies|cut|holds|sectors|\
+// read last, of which item; how many calls there are, and where in the array they lie; and the entries of
+// the list of sectors, whose value is how many there are.
+pub const NAMES: [u8; 75] = *b"\
+    call|address|data|length|dummy|busy|gap|log|replies|cut|holds|sectors|then|\
 ";
 
 pub const CALL: usize = 0;
@@ -29,7 +30,9 @@ pub const HOLDS: usize = 10;
 
 pub const SECTORS: usize = 11;
 
-pub const UNKNOWN: usize = 12;
+pub const THEN: usize = 12;
+
+pub const UNKNOWN: usize = 13;
 
 // Bytes of data, or to be read.
 pub const MOST_BYTES: usize = 4096;
@@ -43,29 +46,56 @@ pub const MOST_ACCESSES: usize = 16384;
 // No limit: no run has as many replies.
 pub const UNLIMITED: usize = 0xFFFF_FFFF;
 
-// `cut all`.
-pub const EVERY: usize = 0xFFFF_FFFF;
+// `cut all`: above every number and `sim_report::NEVER`.
+pub const EVERY: usize = 0x1_0000_0001;
 
-// Where the line of the first item stands, the line read last, its item, and the list's first entry.
-const LINES: usize = 12;
+// No call lies there: behind the last sector.
+pub const NOWHERE: usize = 0x100_0000;
 
-pub const LAST_LINE: usize = 24;
+// Where the line of the first item stands, and the line read last with its item.
+const LINES: usize = 13;
 
-pub const LAST_ITEM: usize = 25;
+pub const LAST_LINE: usize = 26;
 
-const ENTRIES: usize = 26;
+pub const LAST_ITEM: usize = 27;
 
-const SAID: usize = 326;
+// The calls read so far; their lowest sector; where the bytes end that they program or erase, and the line
+// and the item that say so.
+pub const CALLS: usize = 28;
+
+pub const LOWEST: usize = 29;
+
+pub const HIGHEST: usize = 30;
+
+pub const HIGHEST_LINE: usize = 31;
+
+pub const HIGHEST_ITEM: usize = 32;
+
+// The list's first entry.
+const ENTRIES: usize = 33;
+
+const SAID: usize = 333;
 
 // Before the first line.
 pub fn defaults() -> [usize; SAID] {
     let mut said = [0; SAID];
-    said[DUMMY] = 1;
-    said[LOG] = MOST_ACCESSES;
-    said[REPLIES] = UNLIMITED;
     said[CUT] = sim_report::NEVER;
     said[LAST_ITEM] = UNKNOWN;
+    said[LOWEST] = NOWHERE;
+    begin_call(&mut said);
     said
+}
+
+// What each call of a row has of its own is not said yet.
+pub fn begin_call(said: &mut [usize]) {
+    say(said, CALL, 0, 0);
+    say(said, ADDRESS, 0, 0);
+    say(said, DATA, 0, 0);
+    say(said, LENGTH, 0, 0);
+    say(said, DUMMY, 1, 0);
+    say(said, LOG, MOST_ACCESSES, 0);
+    say(said, REPLIES, UNLIMITED, 0);
+    say(said, SECTORS, 0, 0);
 }
 
 // The value of an item.
@@ -77,7 +107,7 @@ pub fn line_of(said: &[usize], item: usize) -> usize {
     of(said, std::num::wrapping_add_usize(LINES, item))
 }
 
-fn put(said: &mut [usize], at: usize, n: usize) {
+pub fn put(said: &mut [usize], at: usize, n: usize) {
     if at < said.len() {
         said[at] = n;
     }
@@ -112,7 +142,7 @@ pub fn most(item: usize) -> usize {
     if item == LENGTH {
         return MOST_BYTES;
     }
-    if item == LOG || item == CUT {
+    if item == LOG {
         MOST_ACCESSES
     } else {
         UNLIMITED

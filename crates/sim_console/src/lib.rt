@@ -1,22 +1,23 @@
-// One call of the driver against the simulated controller and flash, as a request on standard input
-// says (`request`): the run is printed (`report`), or the one line that says what is wrong (`fault`).
-ghost use Prim.Native.Nat.{_≤_};
-use crate::items::MOST_ACCESSES;
+// Calls of the driver against the simulated controller and flash, as a row of requests on standard input
+// says (`request`): they are run (`row`) and printed (`report`), or the one line is that says what is wrong
+// (`fault`).
 use crate::items::MOST_BYTES;
-use crate::request::LIST_PART;
+use crate::lent::LONG_PART;
+use crate::report::Shows;
 use crate::words::least;
 use libc::STDIN_FILENO;
-use sim_report::Ended;
-use simulated_device::Choices;
+use sim_report::NEVER;
 
 mod calls;
 mod ended;
 mod fault;
 mod items;
+mod lent;
 mod lines;
 mod numbers;
 mod report;
 mod request;
+mod row;
 mod sectors;
 mod words;
 
@@ -53,143 +54,58 @@ fn last_line(input: &[u8]) -> usize {
     count
 }
 
-// A request that is at hand as text.
+// Requests that are at hand as text.
 pub fn simulate_text(input: &[u8]) {
     let mut said = items::defaults();
     let mut data = [0u8; MOST_BYTES];
-    let mut array = [0xFFu8; LIST_PART];
+    let mut array = [0xFFu8; LONG_PART];
     let wrong = request::read(input, &mut said, &mut data, &mut array);
     if wrong == fault::NOTHING {
-        simulate(&said, &data, &mut array);
+        simulate(input, &said, &mut array);
     } else {
         fault::print(wrong, &said);
     }
 }
 
-fn copy(from: &[u8], to: &mut [u8]) {
-    let mut i = 0;
-    while i < to.len() {
-        to[i] = words::byte_at(from, i);
-        i += 1;
-    }
-}
-
-// The data of a list are the numbers of its sectors.
-fn simulate(request: &[usize], data: &[u8], array: &mut [u8]) {
-    let end = least(request::part_of(request), array.len());
-    if request::has_list(request) {
-        let numbers = sectors::numbered(request);
-        let count = items::of(request, items::SECTORS);
-        on_data(request, words::part(&numbers, 0, count), &mut array[0..end]);
-    } else {
-        let count = items::of(request, items::DATA);
-        on_data(request, words::part(data, 0, count), &mut array[0..end]);
-    }
-}
-
-// The call is lent its memory; what the array held is kept beside it.
-fn on_data(request: &[usize], data: &[u8], array: &mut [u8]) {
-    let mut before = [0u8; LIST_PART];
-    let mut buffer = [0u8; MOST_BYTES];
+// What the array held before the row is kept beside it.
+fn simulate(input: &[u8], requests: &[usize], array: &mut [u8]) {
+    let mut before = [0u8; LONG_PART];
     let mut log = [0u32; WORDS];
-    copy(array, &mut before);
-    let len = least(items::of(request, items::LENGTH), MOST_BYTES);
-    lent(request, data, &mut buffer[0..len], &mut log, &before, array);
+    let end = least(lent::size_of(requests), array.len());
+    words::copy(&array[0..end], &mut before);
+    lend(input, requests, &mut log, &before, &mut array[0..end]);
 }
 
-// A run with room for so many accesses is one that is cut there.
-fn lent(
-    request: &[usize],
-    data: &[u8],
-    buffer: &mut [u8],
-    log: &mut [u32],
-    before: &[u8],
-    array: &mut [u8],
-) {
-    let cut = items::of(request, items::CUT);
+fn lend(input: &[u8], requests: &[usize], log: &mut [u32], before: &[u8], array: &mut [u8]) {
+    let cut = items::of(requests, items::CUT);
     if cut == items::EVERY {
-        return cuts(request, data, buffer, log, before, array);
+        return cuts(input, requests, log, before, array);
     }
-    let end = words_of(least(cut, items::of(request, items::LOG)), log.len());
-    let ended = run(request, data, buffer, &mut log[0..end], array);
-    report::whole(request, ended, log, buffer, before, array);
+    let came = row::run(input, requests, cut, Shows::Calls, log, before, array);
+    report::left_out(came)
 }
 
-// The words of so many accesses.
-fn words_of(accesses: usize, log: usize) -> usize
-    ensures within { λ r. ⌜ r ≤ log ⌝ }
-{
-    least(least(accesses, MOST_ACCESSES) * 2, log)
+// Every cut point, from 0 to all accesses of the row.
+fn cuts(input: &[u8], requests: &[usize], log: &mut [u32], before: &[u8], array: &mut [u8]) {
+    let came = row::run(input, requests, NEVER, Shows::Nothing, log, before, array);
+    let all = report::made(NEVER, came);
+    cut_lines(all, input, requests, log, before, array);
+    report::refused(NEVER, came);
+    report::left_out(came)
 }
 
-fn choices(request: &[usize]) -> Choices {
-    Choices {
-        busy_reads: request::word(items::of(request, items::BUSY)),
-        gap: request::word(items::of(request, items::GAP)),
-        base: request::base_of(request),
-    }
-}
-
-fn run(
-    request: &[usize],
-    data: &[u8],
-    buffer: &mut [u8],
-    log: &mut [u32],
-    array: &mut [u8],
-) -> Ended {
-    let mut sent = [0u8; 256];
-    let mut received = [0u32; 128];
-    let ran = simulated_device::run::run(
-        calls::begin(request, data.len(), buffer.len(), log.len()),
-        simulated_device::at_rest(choices(request)),
-        items::of(request, items::REPLIES),
-        data,
-        buffer,
-        log,
-        &mut sent,
-        &mut received,
-        array,
-    );
-    ended::of_run(request, ran)
-}
-
-// Every cut, up to the first that the run does not reach.
-fn cuts(
-    request: &[usize],
-    data: &[u8],
-    buffer: &mut [u8],
+fn cut_lines(
+    all: usize,
+    input: &[u8],
+    requests: &[usize],
     log: &mut [u32],
     before: &[u8],
     array: &mut [u8],
 ) {
-    let room = items::of(request, items::LOG);
     let mut k = 0;
-    while k < room {
-        if !cut_at(request, k, data, buffer, log, before, array) {
-            return;
-        }
+    while k < all {
+        row::run(input, requests, k, Shows::Line, log, before, array);
         k += 1;
     }
-    cut_at(request, room, data, buffer, log, before, array);
-}
-
-// Whether the run reaches the cut after so many accesses: then its line is printed.
-fn cut_at(
-    request: &[usize],
-    point: usize,
-    data: &[u8],
-    buffer: &mut [u8],
-    log: &mut [u32],
-    before: &[u8],
-    array: &mut [u8],
-) -> bool {
-    copy(before, array);
-    let end = words_of(point, log.len());
-    let ended = run(request, data, buffer, &mut log[0..end], array);
-    if ended.used == end {
-        report::cut_line(request, ended, log, before, array);
-        return true;
-    }
-    report::refused(ended.refused, ended.used);
-    false
+    row::run(input, requests, all, Shows::Line, log, before, array);
 }

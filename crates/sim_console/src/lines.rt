@@ -1,4 +1,6 @@
 // The lines of a request: each says one item. A function that reads one gives what is wrong with it.
+ghost use Prim.Native.Nat.{_≤_, _<_, _+_};
+ghost use lib.ListN.{length};
 use crate::fault;
 use crate::items;
 use crate::numbers;
@@ -63,7 +65,7 @@ fn cut_point(word: &[u8]) -> Value {
     if words::same(word, b"all") {
         return Value::Is(items::EVERY);
     }
-    at_most(word, items::MOST_ACCESSES)
+    at_most(word, items::most(items::CUT))
 }
 
 fn value_in(item: usize, word: &[u8]) -> Value {
@@ -266,20 +268,86 @@ fn of_line(
     of_item(item, rest, line, base, end, said, bytes)
 }
 
-// Reads the lines, up to the first that is bad. The part of the array goes from `base` to `end`; before it
-// is known `end` is 0, and `bytes` are the data, else they are the part.
+// Reads the lines behind those that were read, up to the first that is bad. The part of the array goes from
+// `base` to `end`; before it is known `end` is 0, and `bytes` are the data, else they are the part.
 pub fn read(input: &[u8], base: usize, end: usize, said: &mut [usize], bytes: &mut [u8]) -> usize {
     let mut at = 0;
-    let mut line = 0;
+    let mut line = items::of(said, items::LAST_LINE);
     while at < input.len() {
         let stop = words::past(input, at, b'\n', false);
         let text = words::without_cr(&input[at..stop]);
         at = stop + 1;
-        line += 1;
+        line = std::num::wrapping_add_usize(line, 1);
         let wrong = of_line(text, line, base, end, said, bytes);
         if wrong != fault::NOTHING {
             return wrong;
         }
     }
     fault::NOTHING
+}
+
+// ---- rows
+
+// The line that parts two requests.
+fn is_then(text: &[u8]) -> bool {
+    if LONGEST < text.len() {
+        return false;
+    }
+    item_in(text) == items::THEN
+}
+
+// Where the request ends that begins at a place: before a line `then`, or with the input.
+pub fn request_end(input: &[u8], from: usize) -> usize
+    requires { ⌜ from ≤ length (now input) ⌝ }
+    ensures within { λ r. ⌜ (from ≤ r) × (r ≤ length (now (input .entry))) ⌝ }
+{
+    let mut at = from;
+    while at < input.len() {
+        let stop = words::past(input, at, b'\n', false);
+        if is_then(words::without_cr(&input[at..stop])) {
+            return at;
+        }
+        at = stop + 1;
+    }
+    input.len()
+}
+
+// Where the next request begins: behind the line `then`, or past the input, where there is none.
+pub fn next_request(input: &[u8], end: usize) -> usize
+    requires { ⌜ end ≤ length (now input) ⌝ }
+    ensures further { λ r. ⌜ (end < r) × (r ≤ length (now (input .entry)) + 1) ⌝ }
+{
+    let stop = words::past(input, end, b'\n', false);
+    if stop < input.len() {
+        return stop + 1;
+    }
+    if end < input.len() {
+        input.len()
+    } else {
+        end + 1
+    }
+}
+
+// The line `then` behind a request that ends there. It has no value.
+pub fn pass_then(input: &[u8], end: usize, said: &mut [usize]) -> usize
+    requires { ⌜ end ≤ length (now input) ⌝ }
+{
+    if input.len() <= end {
+        return fault::NOTHING;
+    }
+    let line = std::num::wrapping_add_usize(items::of(said, items::LAST_LINE), 1);
+    items::stand_at(said, line, items::THEN);
+    items::say(said, items::THEN, 0, line);
+    let stop = words::past(input, end, b'\n', false);
+    takes_none(words::without_cr(&input[end..stop]))
+}
+
+fn takes_none(text: &[u8]) -> usize {
+    let word = words::word_from(text, 0);
+    let more = words::word_from(text, word.to);
+    if more.is_none() {
+        fault::NOTHING
+    } else {
+        fault::TAKES_NONE
+    }
 }

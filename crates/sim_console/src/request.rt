@@ -1,6 +1,6 @@
-// A request, one item a line. Words are apart by spaces; blank lines and those that begin with # are
-// skipped. Each item stands there once at most, but for `data`, `sectors` and `holds`. A line has up to
-// 1024 bytes, all of them up to 32767.
+// A request, one item a line; a row of them, apart by lines `then`. Words are apart by spaces; blank lines
+// and those that begin with # are skipped. Each item stands there once at most, but for `data`, `sectors` and
+// `holds`. A line has up to 1024 bytes, all of them up to 32767.
 //
 //   call NAME        one of `calls`
 //   address HEX      up to eight digits
@@ -14,21 +14,19 @@
 //   replies N        how many replies there are; no limit by default
 //   cut K | cut all  the power fails after K accesses | after every number of accesses
 //   holds HEX HEX .. bytes that the flash holds beforehand, from an address on; FF elsewhere
+//   then             a call follows, on the device and the array as the one before leaves them
+//
+// `busy`, `gap`, `cut` and `holds` are said of the whole row, with any of its calls, and a cut point counts the
+// accesses of all; the other items are each call's own.
 //
 // What was said of the items, by their places, is the request that a run is lent.
 ghost use Prim.Native.Nat.{_<_};
 use crate::calls;
 use crate::fault;
 use crate::items;
+use crate::lent;
 use crate::lines;
-use crate::sectors;
-use crate::words;
 use sim_report::calls::ERASE_SECTORS;
-
-// The part of the array that is lent: two sectors, and eight to a list.
-const PART: usize = 131072;
-
-pub const LIST_PART: usize = 524288;
 
 // What is wrong with an item of this call, which was on a line or, with 0, on none.
 fn fitting(call: usize, item: usize, line: usize) -> usize {
@@ -77,41 +75,79 @@ fn checked(call: usize, said: &mut [usize]) -> usize {
     checked_item(call, items::SECTORS, said)
 }
 
-// Reads all items; of what the flash holds only whether it is said well.
-fn read_items(input: &[u8], said: &mut [usize], data: &mut [u8]) -> usize {
-    let wrong = lines::read(input, 0, 0, said, data);
+// What names no call: the line `then` behind or before it, or the end of the input.
+fn no_call(is_last: bool, said: &mut [usize]) -> usize {
+    let next = std::num::wrapping_add_usize(items::of(said, items::LAST_LINE), 1);
+    if !is_last {
+        items::stand_at(said, next, items::THEN);
+        return fault::NO_CALL_BEFORE;
+    }
+    let line = items::line_of(said, items::THEN);
+    if line == 0 {
+        items::stand_at(said, next, items::UNKNOWN);
+        fault::NO_CALL
+    } else {
+        items::stand_at(said, line, items::THEN);
+        fault::NO_CALL_BEHIND
+    }
+}
+
+// Reads one request of a row; of what the flash holds only whether it is said well.
+fn read_one(text: &[u8], is_last: bool, said: &mut [usize], data: &mut [u8]) -> usize {
+    items::begin_call(said);
+    let wrong = lines::read(text, 0, 0, said, data);
     if wrong != fault::NOTHING {
         return wrong;
     }
     if items::line_of(said, items::CALL) == 0 {
-        let next = std::num::wrapping_add_usize(items::of(said, items::LAST_LINE), 1);
-        items::stand_at(said, next, items::UNKNOWN);
-        return fault::NO_CALL;
+        return no_call(is_last, said);
     }
-    checked(items::of(said, items::CALL), said)
+    let wrong = checked(items::of(said, items::CALL), said);
+    if wrong == fault::NOTHING {
+        lent::note(said);
+    }
+    wrong
 }
 
-// Reads a request, and gives what is wrong with it. What the flash holds can be put into the part of the
-// array once the address is known.
+// Reads the requests of a row, and the lines between them.
+fn read_all(input: &[u8], said: &mut [usize], data: &mut [u8]) -> usize {
+    let mut at = 0;
+    while at <= input.len() {
+        let end = lines::request_end(input, at);
+        let is_last = end == input.len();
+        let wrong = read_one(&input[at..end], is_last, said, data);
+        if wrong != fault::NOTHING {
+            return wrong;
+        }
+        let wrong = lines::pass_then(input, end, said);
+        if wrong != fault::NOTHING {
+            return wrong;
+        }
+        at = lines::next_request(input, end);
+    }
+    fault::NOTHING
+}
+
+// Reads a row of requests, and gives what is wrong with it. What the flash holds can be put into the part
+// of the array once all addresses are known.
 pub fn read(input: &[u8], said: &mut [usize], data: &mut [u8], array: &mut [u8]) -> usize {
-    let wrong = read_items(input, said, data);
+    let wrong = read_all(input, said, data);
     if wrong != fault::NOTHING {
         return wrong;
     }
-    let base = base_of(said) as usize;
-    let end = end_of(base, part_of(said));
-    if sectors::are_beyond(said, end) {
-        let line = items::line_of(said, items::SECTORS);
-        items::stand_at(said, line, items::SECTORS);
-        return fault::OUTSIDE_OF_LIST;
+    let outside = lent::outside(said);
+    if !lent::is_enough(said) {
+        let line = items::of(said, items::HIGHEST_LINE);
+        let item = items::of(said, items::HIGHEST_ITEM);
+        items::stand_at(said, line, item);
+        return outside;
     }
+    let base = lent::base_of(said) as usize;
+    let end = lent::end_of(said);
+    items::stand_at(said, 0, items::UNKNOWN);
     let wrong = lines::read(input, base, end, said, array);
-    outside_of(has_list(said), wrong)
-}
-
-fn outside_of(is_list: bool, wrong: usize) -> usize {
-    if wrong == fault::OUTSIDE && is_list {
-        fault::OUTSIDE_OF_LIST
+    if wrong == fault::OUTSIDE {
+        outside
     } else {
         wrong
     }
@@ -120,27 +156,6 @@ fn outside_of(is_list: bool, wrong: usize) -> usize {
 // Whether the call takes a list.
 pub fn has_list(request: &[usize]) -> bool {
     items::of(request, items::CALL) == ERASE_SECTORS
-}
-
-// How many bytes the part has.
-pub fn part_of(request: &[usize]) -> usize {
-    if has_list(request) { LIST_PART } else { PART }
-}
-
-// The part ends with the array at the latest.
-fn end_of(base: usize, part: usize) -> usize {
-    words::least(std::num::wrapping_add_usize(base, part), 0x100_0000)
-}
-
-// Where the part begins: at the sector of the call's address, or at the lowest of its list.
-pub fn base_of(request: &[usize]) -> u32
-    ensures base { λ r. ⌜ r < 16777216 ⌝ }
-{
-    if has_list(request) {
-        sectors::base_of(request)
-    } else {
-        sector_of(address(request))
-    }
 }
 
 // The sector of an address, which has 24 bits in the flash.

@@ -98,23 +98,23 @@ pub fn base_of(request: &[usize]) -> u32
     lowest(front(&list, count(request)))
 }
 
-fn is_beyond(addr: u32, end: usize) -> bool {
-    end <= addr as usize
-}
-
-fn any_beyond(list: &[u32], end: usize) -> bool {
+// Behind the highest sector.
+fn highest_end(list: &[u32]) -> usize {
+    let mut found: usize = 0;
     let mut i = 0;
     while i < list.len() {
-        if is_beyond(list[i], end) {
-            return true;
-        }
+        found = higher(list[i], found);
         i += 1;
     }
-    false
+    found
 }
 
-// Whether a list that the driver takes goes beyond the end of the part.
-pub fn are_beyond(request: &[usize], end: usize) -> bool {
+fn higher(addr: u32, found: usize) -> usize {
+    let end = addr as usize + SECTOR_SIZE;
+    if found < end { end } else { found }
+}
+
+pub fn end_of(request: &[usize]) -> usize {
     let list = entries(request);
-    any_beyond(front(&list, taken(request)), end)
+    highest_end(front(&list, count(request)))
 }

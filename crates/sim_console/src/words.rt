@@ -24,6 +24,14 @@ pub fn byte_at(s: &[u8], at: usize) -> u8 {
     if at < s.len() { s[at] } else { 0 }
 }
 
+pub fn copy(from: &[u8], to: &mut [u8]) {
+    let mut i = 0;
+    while i < to.len() {
+        to[i] = byte_at(from, i);
+        i += 1;
+    }
+}
+
 // From one place to another, or nothing.
 pub fn part(s: &[u8], from: usize, to: usize) -> &[u8] {
     if to <= s.len() {

@@ -1,7 +1,7 @@
-// What is printed of a run: the log; the answer, or the cut; the used counts; `programmed` of
+// What is printed of a call: the log; the answer, or the cut; the used counts; `programmed` of
 // `write_pages`; `finished` of this, `program` and `erase_sectors`; `in doubt` of these and
-// `erase_sector`; the sectors of a list; the register, id or bytes of a read that is done; and the pages
-// that changed. Of `cut all`, one line a cut.
+// `erase_sector`; the sectors of a list; and the register, id or bytes of a read that is done. Of a row each
+// call has its number above it. The pages that changed come last. Of `cut all`, one line a cut.
 ghost use Prim.Native.Nat.{_≤_, _<_};
 use printing::decimal;
 use printing::entry;
@@ -33,6 +33,12 @@ pub struct Case {
     pub address: u32,
     pub base: u32,
     pub cut: usize,
+    // Its number in a row, from 1, and 0 where it stands alone.
+    pub number: usize,
+    // The accesses of the row up to its end.
+    pub made: usize,
+    // No call is run behind it.
+    pub is_last: bool,
 }
 
 // How a run ended, as far as it is printed.
@@ -67,6 +73,16 @@ pub struct Shown {
     pub finished: usize,
     pub bytes: usize,
     pub doubt: Spot,
+}
+
+// ---- the number in a row
+
+fn title(number: usize, call: usize) {
+    if 0 < number {
+        counted(b"call ", number, b" ");
+        entry(&calls::NAMES, call);
+        text(b"\n");
+    }
 }
 
 // ---- the log
@@ -113,9 +129,9 @@ fn counted(before: &[u8], n: usize, after: &[u8]) {
 // A run has an end, and so a number.
 const NO_NUMBER: u32 = 26;
 
-fn answer(status: Status) {
+fn answer(name: &[u8], status: Status) {
     let number = status.number();
-    text(b"answer ");
+    text(name);
     printing::answer(number.unwrap_or(NO_NUMBER));
     text(b"\n");
 }
@@ -135,24 +151,31 @@ fn entry_place(place: usize) {
 }
 
 // The answer, or the cut in its place.
-fn end(cut: usize, answered: Status, place: usize, made: usize) {
-    if cut == made {
+fn end(case: Case, answered: Status, place: usize) {
+    let made = case.made;
+    if case.cut == made {
         return counted(b"cut after ", made, b" accesses\n");
     }
-    if cut < NEVER {
+    if case.is_last && case.cut < NEVER {
         counted(b"ended after ", made, b" accesses, before the cut\n");
     }
-    answer(answered);
+    answer(b"answer ", answered);
     entry_place(place)
 }
 
 // Where the device could not go on.
-pub fn refused(used: usize) {
-    counted(
-        b"the device could not go on after ",
-        used / 2,
-        b" accesses\n",
-    );
+pub fn refused(made: usize) {
+    counted(b"the device could not go on after ", made, b" accesses\n");
+}
+
+// No call follows one that 23 or 24 ended.
+pub fn left_out(number: usize, status: Status, is_refused: bool) {
+    counted(b"no call follows call ", number, b": ");
+    if is_refused {
+        text(b"the device could not go on\n")
+    } else {
+        answer(b"it ended by ", status)
+    }
 }
 
 // ---- the chunks
@@ -504,21 +527,34 @@ pub fn whole(
 ) {
     let shown = known(ended.sector, ended.erasing, seen);
     let answer = ended.answer;
+    title(case.number, case.call);
     accesses(front(log, ended.used));
     if ended.refused {
-        refused(ended.used);
+        refused(case.made);
     } else {
-        end(case.cut, answer, ended.place, ended.used / 2);
+        end(case, answer, ended.place);
     }
     decimal(b"used log words ", ended.used);
     counted(b", replies ", ended.replies, b"\n");
     chunks(case.call, ended.counted, shown);
     sectors(list, before, array, case.base, shown.doubt, true);
     value(case, ended, buffer);
-    changes(before, array, case.base, shown.doubt);
+    if case.is_last {
+        changes(before, array, case.base, shown.doubt);
+    }
 }
 
-fn chunks_in_line(call: usize, count: usize, shown: Shown) {
+// The cut before the first call, and a number before each in a row.
+fn line_start(case: Case) {
+    if case.number <= 1 {
+        decimal(b"", case.cut);
+    }
+    if 0 < case.number {
+        decimal(b" call ", case.number);
+    }
+}
+
+fn finished_in_line(call: usize, count: usize, shown: Shown) {
     if programs(call) {
         decimal(b" finished ", shown.finished);
         decimal(b" bytes ", shown.bytes);
@@ -526,22 +562,27 @@ fn chunks_in_line(call: usize, count: usize, shown: Shown) {
     if call == calls::ERASE_SECTORS {
         decimal(b" finished ", count);
     }
-    if works(call) {
-        in_doubt(b" doubt ", b" doubt -", shown.doubt);
-    }
 }
 
-pub fn cut_line(case: Case, ended: Ended, seen: Shown, list: &[u32], before: &[u8], array: &[u8]) {
-    let shown = known(ended.sector, ended.erasing, seen);
-    decimal(b"", ended.used / 2);
-    chunks_in_line(case.call, ended.counted, shown);
-    decimal(
-        b" pages ",
-        pages(before, array, case.base, shown.doubt, false),
-    );
+// What the cut leaves, behind the call that it met.
+fn line_end(case: Case, doubt: Spot, list: &[u32], before: &[u8], array: &[u8]) {
+    if works(case.call) || 0 < case.number {
+        in_doubt(b" doubt ", b" doubt -", doubt);
+    }
+    decimal(b" pages ", pages(before, array, case.base, doubt, false));
     if 0 < list.len() {
         text(b" sectors");
     }
-    sectors(list, before, array, case.base, shown.doubt, false);
+    sectors(list, before, array, case.base, doubt, false);
     text(b"\n");
+}
+
+// A call's part of the line of a cut.
+pub fn cut_line(case: Case, ended: Ended, seen: Shown, list: &[u32], before: &[u8], array: &[u8]) {
+    let shown = known(ended.sector, ended.erasing, seen);
+    line_start(case);
+    finished_in_line(case.call, ended.counted, shown);
+    if case.is_last {
+        line_end(case, shown.doubt, list, before, array);
+    }
 }

@@ -1,5 +1,5 @@
-// Requests in a row, apart by lines of four dashes: each is run as `qspi_sim` runs one, under a line
-// with its number.
+// Inputs of `qspi_sim` one after the other, apart by lines of four dashes: each is run as that runs one,
+// under a line with its number.
 ghost use Prim.Native.Nat.{_≤_, _<_};
 ghost use lib.ListN.{length};
 use libc::STDIN_FILENO;

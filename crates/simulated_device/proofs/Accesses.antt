@@ -1,5 +1,5 @@
--- One access to the simulated device is one that the controller allows: a read gives what it may, a write has the controller's effect, and
--- chip select rises over no word that is not out. A refused write is none. Assumes nothing.
+-- One access to the simulated device is one that the controller allows: a read gives what it may, and a write has the controller's effect.
+-- A refused write is none. Assumes nothing.
 use Prim.Native.Nat.{ℕ, zero, suc, _+_, _-_, _≤_, _<_}
 use mathlib.Core.Path.{_≡_, refl, sym, ap, _∙_, subst}
 use mathlib.Core.Bool.{Bool, true, false, cond, true≢false}
@@ -14,17 +14,17 @@ use Rattle.zynq7000.specs.declared.qspi.Access.{Access}
 use Rattle.zynq7000.specs.declared.qspi.Access.the-variants as access
 use Rattle.zedboard_bsp.specs.Words.{bytesOf}
 use Rattle.power_cut.specs.Flash.{Flash, execute}
-use Rattle.power_cut.specs.Controller.{Register, config, status, enable, rx, other, tx, registerAt, bytesOut, high, configured, effect, someWait, Oldest, GivenBy, Gives, AllOut, Trace, still, step}
+use Rattle.power_cut.specs.Controller.{Register, config, status, enable, rx, other, tx, registerAt, bytesOut, high, configured, effect, someWait, Oldest, GivenBy, Gives, Trace, still, step}
 use Rattle.power_cut.specs.Controller as controller
 use Rattle.power_cut.proofs.Control.{join}
 use Rattle.power_cut.proofs.Levels.{high-stored}
-use Rattle.simulated_device.specs.Simulated.{Sim, simOf, noWords, wordOut, canGoNow, passed, outFor, allOut, takenFrom, afterTake, interruptStatus, answered, readOf, widthAt, After, writeOf, wrote}
+use Rattle.simulated_device.specs.Simulated.{Sim, simOf, noWords, wordOut, canGoNow, passed, takenFrom, afterTake, interruptStatus, answered, readOf, widthAt, After, writeOf, wrote}
 use Rattle.simulated_device.specs.Simulated as sim
 use Rattle.simulated_device.specs.Running.{afterRead, afterWrite}
 use Rattle.simulated_device.specs.declared.Device.{Device}
 use Rattle.simulated_device.specs.declared.Tx.{Tx}
 use Rattle.simulated_device.proofs.Standing.{Holds, Fits, Stands, stands, stands-as, Leads, nowhere, on}
-use Rattle.simulated_device.proofs.WordsOut.{join-snoc, passes, all-out}
+use Rattle.simulated_device.proofs.WordsOut.{join-snoc, passes}
 use Rattle.simulated_device.proofs.Executing.{Outcome, obeyed, stopped, executes}
 
 -- ---- reads
@@ -50,10 +50,10 @@ last-free false false false false = others
 
 -- a read of a register by which the simulated device goes on so
 read-by : (e : controller.Device) (o v : ℕ) (s : Sim) (r : Register) → registerAt o ≡ r → GivenBy r v e → Stands s (controller.afterRead r e) → Leads e (access.Read o v ∷ []) s
-unfolding Gives effect AllOut
+unfolding Gives effect
 read-by e o v s r h g st =
     let may : Gives e (access.Read o v) = rw h g in
-    record { after = controller.afterRead (registerAt o) e; standing = rw h st; trace = step may tt still }
+    record { after = controller.afterRead (registerAt o) e; standing = rw h st; trace = step may still }
 
 some-waits : (i j : ℕ) (l : List ℕ) → i ≤ j → j ≤ length l → isSet 4 (cond (ltb i j) 0x10 0) ≡ someWait (slice i j l)
 some-waits i j l p q = go (ltb i j) refl
@@ -184,14 +184,14 @@ pub data Attempt (e : controller.Device) (a : Access) (y : After) : Type 0 where
   not-made : y .written .refused ≡ true → Leads e [] (afterWrite y) → Attempt e a y
 
 -- a write by which the simulated device goes on so
-written-by : (e : controller.Device) (o v : ℕ) (s : Sim) → AllOut e (access.Write o v) → Stands s (effect e (access.Write o v)) → Leads e (access.Write o v ∷ []) s
+written-by : (e : controller.Device) (o v : ℕ) (s : Sim) → Stands s (effect e (access.Write o v)) → Leads e (access.Write o v ∷ []) s
 unfolding Gives
-written-by e o v s a st = record { after = effect e (access.Write o v); standing = st; trace = step tt a still }
+written-by e o v s st = record { after = effect e (access.Write o v); standing = st; trace = step tt still }
 
 -- config, by its effect
-to-config : (e : controller.Device) (v : ℕ) (s : Sim) → controller.NoneLeft config v e → Stands s (controller.afterWrite config v e) → Leads e (access.Write 0x00 v ∷ []) s
-unfolding AllOut effect registerAt
-to-config e v s a st = written-by e 0x00 v s a st
+to-config : (e : controller.Device) (v : ℕ) (s : Sim) → Stands s (controller.afterWrite config v e) → Leads e (access.Write 0x00 v ∷ []) s
+unfolding effect registerAt
+to-config e v s st = written-by e 0x00 v s st
 
 join-append : (t u : List (List ℕ)) → join (t ++ u) ≡ join t ++ join u
 join-append [] u = refl
@@ -201,9 +201,9 @@ join-append (b ∷ t) u = ap (λ (z : List ℕ). b ++ z) (join-append t u) ∙ s
 module _ (s : Sim) (v : ℕ) (up : high (s .device .config) ≡ true) where
   stays-up : (f : Flash) → Fits s [] [] [] → Holds (s .device .chip) (s .device .choices .base) (s .array) f
       → Attempt (controller.device (s .device .config) [] [] [] (slice (s .device .rx .taken) (s .device .rx .put) (s .received)) f) (access.Write 0x00 v)
-      (sim.afterOf (sim.accepted (sim.withConfig (s .device) v (s .device .tx) (s .device .chip))) s)
+      (sim.afterExecuted (sim.keeping (s .array) (sim.accepted (sim.withConfig (s .device) v (s .device .tx) (s .device .chip)))) s)
   unfolding controller.afterWrite configured
-  stays-up f h k = made refl (to-config _ v x (λ low. absurd (true≢false (sym up ∙ low))) (lands (high v) (isSet 16 v)))
+  stays-up f h k = made refl (to-config _ v x (lands (high v) (isSet 16 v)))
     where
       x : Sim
       x = simOf (sim.withConfig (s .device) v (s .device .tx) (s .device .chip)) (s .sent) (s .received) (s .array)
@@ -224,9 +224,9 @@ module _ (s : Sim) (v : ℕ) (up : high (s .device .config) ≡ true) where
 module _ (s : Sim) (v : ℕ) (down : high (s .device .config) ≡ false) (still-down : high v ≡ false) where
   stays-down : (ws t u : List (List ℕ)) (f : Flash) → Fits s ws t u → Holds (s .device .chip) (s .device .choices .base) (s .array) f
       → Attempt (controller.device (s .device .config) t u (join ws) (slice (s .device .rx .taken) (s .device .rx .put) (s .received)) f) (access.Write 0x00 v)
-      (sim.afterOf (sim.accepted (sim.withConfig (s .device) v (sim.started (s .device .tx) v) (s .device .chip))) s)
+      (sim.afterExecuted (sim.keeping (s .array) (sim.accepted (sim.withConfig (s .device) v (sim.started (s .device .tx) v) (s .device .chip)))) s)
   unfolding controller.afterWrite configured
-  stays-down ws t u f h k = made refl (to-config _ v (x (isSet 16 v)) (λ low rises. absurd (true≢false (sym rises ∙ still-down))) (lands (isSet 16 v)))
+  stays-down ws t u f h k = made refl (to-config _ v (x (isSet 16 v)) (lands (isSet 16 v)))
     where
       start : Bool → Tx
       start b = cond b (record { bytes = s .device .tx .bytes; written = s .device .tx .written; released = s .device .tx .written; out = s .device .tx .out; pause = s .device .tx .pause }) (s .device .tx)
@@ -269,7 +269,7 @@ module _ (s : Sim) (v : ℕ) (down : high (s .device .config) ≡ false) (rises 
   rise : (ws : List (List ℕ)) (f : Flash) → Fits s ws [] [] → Holds (s .device .chip) (s .device .choices .base) (s .array) f
       → Attempt (controller.device (s .device .config) [] [] (join ws) (slice (s .device .rx .taken) (s .device .rx .put) (s .received)) f) (access.Write 0x00 v)
       (sim.afterExecuted (sim.executed (s .device) v (s .sent) (s .array)) s)
-  unfolding Gives AllOut effect registerAt controller.afterWrite configured
+  unfolding Gives effect registerAt controller.afterWrite configured
   rise ws f h k = go (sim.executed (s .device) v (s .sent) (s .array)) (executes (s .device) v (s .sent) (s .array) f (h .room) k)
     where
       r : List ℕ
@@ -290,12 +290,12 @@ module _ (s : Sim) (v : ℕ) (down : high (s .device .config) ≡ false) (rises 
           let end = controller.device (clear 16 v) [] [] [] r g in
           let x : Sim = simOf (sim.withConfig (s .device) v noWords c) (s .sent) (s .received) array₁ in
           let fits : Fits x [] [] [] = record { outs = refl; freed = refl; all = refl; bytes = refl; room = omega arith; order = h .order; held = h .held; rest = λ z. (refl, refl) } in
-          let goes : Trace AllOut (effect here (access.Write 0x00 v)) [] end = rw (after (isSet 16 v)) (trace (clear 16 v) [] [] [] r) in
-          made refl (record { after = end; standing = stands fits holds; trace = step {d = here} {a = access.Write 0x00 v} tt (λ low up. refl) goes })
+          let goes : Trace (effect here (access.Write 0x00 v)) [] end = rw (after (isSet 16 v)) (trace (clear 16 v) [] [] [] r) in
+          made refl (record { after = end; standing = stands fits holds; trace = step {d = here} {a = access.Write 0x00 v} tt goes })
       go y stopped = not-made refl (nowhere (stands h k))
 
 -- every word is out where as many are out as are written
-rises : (s : Sim) (v : ℕ) → high (s .device .config) ≡ false → high v ≡ true → (e : controller.Device) → Stands s e → Attempt e (access.Write 0x00 v) (sim.risen s v)
+rises : (s : Sim) (v : ℕ) → high (s .device .config) ≡ false → high v ≡ true → (e : controller.Device) → Stands s e → Attempt e (access.Write 0x00 v) (sim.afterExecuted (sim.raised (s .device) v (s .sent) (s .array)) s)
 rises s v down up e st = go (eqb (s .device .tx .out) (s .device .tx .written)) refl e st
   where
     all : s .device .tx .out ≡ s .device .tx .written → (ws t u : List (List ℕ)) (f : Flash) → Fits s ws t u → Holds (s .device .chip) (s .device .choices .base) (s .array) f
@@ -306,37 +306,22 @@ rises s v down up e st = go (eqb (s .device .tx .out) (s .device .tx .written)) 
     all e ws (c ∷ t) u f h k = absurd (omega (arith, h .outs, h .all))
 
     go : (b : Bool) → eqb (s .device .tx .out) (s .device .tx .written) ≡ b → (e : controller.Device) → Stands s e
-        → Attempt e (access.Write 0x00 v) (cond b (sim.afterExecuted (sim.executed (s .device) v (s .sent) (s .array)) s) (sim.afterOf (sim.refusal (s .device)) s))
+        → Attempt e (access.Write 0x00 v) (sim.afterExecuted (cond b (sim.executed (s .device) v (s .sent) (s .array)) (sim.keeping (s .array) (sim.refusal (s .device)))) s)
     go true q e (stands {ws} {t} {u} {f} h k) = all (eqb-true (s .device .tx .out) (s .device .tx .written) q) ws t u f h k
     go false q e st = not-made refl (nowhere st)
-
-config-kept : (n : ℕ) (s : Sim) → outFor n s .device .config ≡ s .device .config
-unfolding outFor
-config-kept zero s = refl
-config-kept (suc n) s = go (canGoNow s) (config-kept n (wordOut s))
-  where
-    go : (b : Bool) → outFor n (wordOut s) .device .config ≡ s .device .config → cond b (outFor n (wordOut s)) s .device .config ≡ s .device .config
-    go true h = h
-    go false h = refl
 
 -- what is silent before an access lies before it
 made-on : {e : controller.Device} {s : Sim} {a : Access} {y : After} → (x : Leads e [] s) → Attempt (x .after) a y → Attempt e a y
 made-on x (made h l) = made h (on x l)
 made-on x (not-made h l) = not-made h (on x l)
 
-raises : (s : Sim) (v : ℕ) → high (s .device .config) ≡ false → high v ≡ true → (e : controller.Device) → Stands s e → Attempt e (access.Write 0x00 v) (sim.raised s v)
-unfolding allOut
-raises s v down up e st =
-    let x = all-out s e st in
-    made-on x (rises (allOut s) v (ap (λ (c : ℕ). high c) (config-kept (s .device .tx .released - s .device .tx .out) s) ∙ down) up (x .after) (x .standing))
-
 -- config is written
-configures : (s : Sim) (v : ℕ) (e : controller.Device) → Stands s e → Attempt e (access.Write 0x00 v) (sim.configured s v)
+configures : (s : Sim) (v : ℕ) (e : controller.Device) → Stands s e → Attempt e (access.Write 0x00 v) (sim.afterExecuted (sim.configured (s .device) v (s .sent) (s .array)) s)
 configures s v e st = go (high (s .device .config)) (high v) refl refl e st
   where
     up₁ : high (s .device .config) ≡ true → (ws t u : List (List ℕ)) (f : Flash) → Fits s ws t u → Holds (s .device .chip) (s .device .choices .base) (s .array) f
         → Attempt (controller.device (s .device .config) t u (join ws) (slice (s .device .rx .taken) (s .device .rx .put) (s .received)) f) (access.Write 0x00 v)
-        (sim.afterOf (sim.accepted (sim.withConfig (s .device) v (s .device .tx) (s .device .chip))) s)
+        (sim.afterExecuted (sim.keeping (s .array) (sim.accepted (sim.withConfig (s .device) v (s .device .tx) (s .device .chip)))) s)
     up₁ q [] [] [] f h k = stays-up s v q f h k
     up₁ q (c ∷ ws) t u f h k = let n = h .rest q .0 in absurd (omega (arith, h .all))
     up₁ q [] (c ∷ t) u f h k = let n = h .rest q .0 in absurd (omega (arith, h .all))
@@ -344,10 +329,10 @@ configures s v e st = go (high (s .device .config)) (high v) refl refl e st
 
     go : (a b : Bool) → high (s .device .config) ≡ a → high v ≡ b → (e : controller.Device) → Stands s e
         → Attempt e (access.Write 0x00 v)
-        (cond a (sim.afterOf (sim.accepted (sim.withConfig (s .device) v (s .device .tx) (s .device .chip))) s)
-        (cond b (sim.raised s v) (sim.afterOf (sim.accepted (sim.withConfig (s .device) v (sim.started (s .device .tx) v) (s .device .chip))) s)))
+        (sim.afterExecuted (cond a (sim.keeping (s .array) (sim.accepted (sim.withConfig (s .device) v (s .device .tx) (s .device .chip))))
+        (cond b (sim.raised (s .device) v (s .sent) (s .array)) (sim.keeping (s .array) (sim.accepted (sim.withConfig (s .device) v (sim.started (s .device .tx) v) (s .device .chip)))))) s)
     go true b p q e (stands {ws} {t} {u} {f} h k) = up₁ p ws t u f h k
-    go false true p q e st = raises s v p q e st
+    go false true p q e st = rises s v p q e st
     go false false p q e (stands {ws} {t} {u} {f} h k) = stays-down s v p q ws t u f h k
 
 -- ---- TX words
@@ -359,12 +344,12 @@ data Quiet : Register → Type 0 where
   is-rx : Quiet rx
   is-other : Quiet other
 
-quiet-write : {r : Register} → Quiet r → (v : ℕ) (e : controller.Device) → controller.NoneLeft r v e × (controller.afterWrite r v e ≡ e)
+quiet-write : {r : Register} → Quiet r → (v : ℕ) (e : controller.Device) → controller.afterWrite r v e ≡ e
 unfolding controller.afterWrite
-quiet-write is-status v e = (tt, refl)
-quiet-write is-enable v e = (tt, refl)
-quiet-write is-rx v e = (tt, refl)
-quiet-write is-other v e = (tt, refl)
+quiet-write is-status v e = refl
+quiet-write is-enable v e = refl
+quiet-write is-rx v e = refl
+quiet-write is-other v e = refl
 
 -- the register at an offset other than config's, by the width of its words
 data Wide (o : ℕ) (n : ℕ) : Type 0 where
@@ -417,7 +402,7 @@ module _ (s : Sim) (o v n : ℕ) (width : widthAt o ≡ n) (small : n ≤ 4) (po
       → high (s .device .config) ≡ false → 4 ≤ length (s .sent) → s .device .tx .bytes ≤ length (s .sent) - 4
       → Leads (controller.device (s .device .config) t u (join ws) (slice (s .device .rx .taken) (s .device .rx .put) (s .received)) f) (access.Write o v ∷ [])
       (simOf (sim.withTx (s .device) (sim.oneMore (s .device .tx) n)) (sets (s .sent) (s .device .tx .bytes) (take n (bytesOf v))) (s .received) (s .array))
-  unfolding AllOut effect controller.afterWrite bytesOut
+  unfolding effect controller.afterWrite bytesOut
   sends-one ws t u f h k low four room =
       let b = take n (bytesOf v) in
       let l : length (take n (bytesOf v)) ≡ n = length-bytes n v small in
@@ -439,7 +424,7 @@ module _ (s : Sim) (o v n : ℕ) (width : widthAt o ≡ n) (small : n ≤ 4) (po
         held = h .held;
         rest = λ z. absurd (true≢false (sym z ∙ low));
       } in
-      written-by _ o v x (rw port tt) (rw port (stands fits k))
+      written-by _ o v x (rw port (stands fits k))
 
 sending : (s : Sim) (o v : ℕ) (e : controller.Device) → Stands s e → eqb o 0x00 ≡ false → 0 < widthAt o → Attempt e (access.Write o v) (sim.afterSent (sim.sending (s .device) o v (s .sent)) s)
 sending s o v e st e₀ p = top (high (s .device .config)) refl
@@ -479,14 +464,13 @@ sending s o v e st e₀ p = top (high (s .device .config)) refl
 -- ---- any write
 
 writes-one : (s : Sim) (o v : ℕ) (e : controller.Device) → Stands s e → Attempt e (access.Write o v) (wrote s o v)
-unfolding AllOut effect
+unfolding effect
 writes-one s o v e st = top (eqb o 0x00) refl
   where
     other₁ : Wide o (widthAt o) → eqb (widthAt o) 0 ≡ true → Attempt e (access.Write o v) (sim.afterOf (sim.accepted (s .device)) s)
     other₁ (word p q r) z = let n = eqb-true (widthAt o) 0 z in absurd (omega arith)
     other₁ (no-word p q) z =
-        let x = quiet-write q v e in
-        made refl (written-by e o v s (x .0) (rw (x .1) st))
+        made refl (written-by e o v s (rw (quiet-write q v e) st))
 
     tx₁ : (b : Bool) → eqb (widthAt o) 0 ≡ b → eqb o 0x00 ≡ false
         → Attempt e (access.Write o v) (cond b (sim.afterOf (sim.accepted (s .device)) s) (sim.afterSent (sim.sending (s .device) o v (s .sent)) s))
@@ -496,7 +480,7 @@ writes-one s o v e st = top (eqb o 0x00) refl
         sending s o v e st e₀ (omega (arith, n))
 
     top : (b : Bool) → eqb o 0x00 ≡ b
-        → Attempt e (access.Write o v) (cond b (sim.configured s v) (cond (eqb (widthAt o) 0) (sim.afterOf (sim.accepted (s .device)) s) (sim.afterSent (sim.sending (s .device) o v (s .sent)) s)))
+        → Attempt e (access.Write o v) (cond b (sim.afterExecuted (sim.configured (s .device) v (s .sent) (s .array)) s) (cond (eqb (widthAt o) 0) (sim.afterOf (sim.accepted (s .device)) s) (sim.afterSent (sim.sending (s .device) o v (s .sent)) s)))
     top true z = let n = eqb-true o 0x00 z in rw n (configures s v e st)
     top false z = tx₁ (eqb (widthAt o) 0) refl z
 

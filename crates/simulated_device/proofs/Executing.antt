@@ -11,7 +11,7 @@ use lib.Seq.{getD-take, getD-drop, length-take-le}
 use borrow.Author.Tests.{lt-ltb, ltb-true, ltb-false, eqb-true, eqb-false, eq-eqb, ne-eqb}
 use Rattle.power_cut.specs.Flash.{Array, Command, writeEnable, writeDisable, pageProgram, sectorErase, addressOf, commandOf, programOf, eraseOf, Flash, flash, obey, execute, settles}
 use Rattle.power_cut.specs.Flash as model
-use Rattle.power_cut.specs.Controller.{AllOut, Trace, still, quiet, idle}
+use Rattle.power_cut.specs.Controller.{Trace, still, quiet, idle}
 use Rattle.power_cut.specs.Controller as controller
 use Rattle.simulated_device.specs.Replies.{byteAt, addressIn}
 use Rattle.simulated_device.specs.Simulated.{noWords, withConfig, accepted, refusal, noWork, programming, erasing, askedFor, within, doneFrom, latched, Executed, works, executed}
@@ -138,7 +138,7 @@ asks (b ∷ bs) = first-asks b bs
 -- the flash goes on as the simulated one does, from what the command made of it, or the simulated one refuses
 pub data Outcome (d : Device) (v : ℕ) (array : List ℕ) (f : Flash) : Executed → Type 0 where
   obeyed : {k : Chip} {array₁ : List ℕ} {g : Flash} → Holds k (d .choices .base) array₁ g
-      → ((c : ℕ) (t u : List (List ℕ)) (w r : List ℕ) → Trace AllOut (controller.device c t u w r f) [] (controller.device c t u w r g))
+      → ((c : ℕ) (t u : List (List ℕ)) (w r : List ℕ) → Trace (controller.device c t u w r f) [] (controller.device c t u w r g))
       → Outcome d v array f (record { written = accepted (withConfig d v noWords k); array = array₁ })
   stopped : Outcome d v array f (record { written = refusal d; array = array })
 

@@ -1,12 +1,12 @@
 -- The device's choices, the part of the array that is lent among them, stay as they are. Assumes nothing.
-use Prim.Native.Nat.{ℕ, zero, suc, _-_}
+use Prim.Native.Nat.{ℕ, _-_}
 use mathlib.Core.Path.{_≡_, refl, _∙_}
 use mathlib.Core.Bool.{Bool, true, false, cond}
 use mathlib.Core.List.{List}
 use lib.Dec.{eqb, ltb}
 use lib.ListN.{length}
 use Rattle.power_cut.specs.Controller.{high}
-use Rattle.simulated_device.specs.Simulated.{Sim, wordOut, canGoNow, passed, outFor, allOut, answered, readOf, widthAt, askedFor, within, executed, sending, risen, raised, configured, wrote, writeOf, After}
+use Rattle.simulated_device.specs.Simulated.{Sim, canGoNow, passed, answered, readOf, widthAt, askedFor, within, executed, sending, raised, configured, wrote, writeOf, After}
 use Rattle.simulated_device.specs.Simulated as sim
 use Rattle.simulated_device.specs.declared.Choices.{Choices}
 use Rattle.simulated_device.specs.declared.Device.{Device}
@@ -29,11 +29,6 @@ inGiven g = g .device .choices
 passed-choices : (s : Sim) → inSim (passed s) ≡ inSim s
 passed-choices s = either inSim (eqb (s .device .tx .pause) 0) (either inSim (canGoNow s) refl refl) refl
 
-out-choices : (n : ℕ) (s : Sim) → inSim (outFor n s) ≡ inSim s
-unfolding outFor
-out-choices zero s = refl
-out-choices (suc n) s = either inSim (canGoNow s) (out-choices n (wordOut s)) refl
-
 answered-choices : (d : Device) (o : ℕ) (received : List ℕ) → inGiven (answered d o received) ≡ d .choices
 answered-choices d o received =
     either inGiven (eqb o 0x00) refl
@@ -52,15 +47,14 @@ executed-choices d v sent array =
     (either (λ (x : sim.Executed). x .written .device .choices) (within w (d .choices .base) (length array)) refl refl)
     refl
 
-risen-choices : (s : Sim) (v : ℕ) → inAfter (risen s v) ≡ inSim s
-risen-choices s v = either inAfter (eqb (s .device .tx .out) (s .device .tx .written)) (executed-choices (s .device) v (s .sent) (s .array)) refl
+raised-choices : (d : Device) (v : ℕ) (sent array : List ℕ) → raised d v sent array .written .device .choices ≡ d .choices
+raised-choices d v sent array =
+    either (λ (x : sim.Executed). x .written .device .choices) (eqb (d .tx .out) (d .tx .written)) (executed-choices d v sent array) refl
 
-raised-choices : (s : Sim) (v : ℕ) → inAfter (raised s v) ≡ inSim s
-unfolding allOut
-raised-choices s v = risen-choices (allOut s) v ∙ out-choices (s .device .tx .released - s .device .tx .out) s
-
-configured-choices : (s : Sim) (v : ℕ) → inAfter (configured s v) ≡ inSim s
-configured-choices s v = either inAfter (high (s .device .config)) refl (either inAfter (high v) (raised-choices s v) refl)
+configured-choices : (d : Device) (v : ℕ) (sent array : List ℕ) → configured d v sent array .written .device .choices ≡ d .choices
+configured-choices d v sent array =
+    either (λ (x : sim.Executed). x .written .device .choices) (high (d .config)) refl
+    (either (λ (x : sim.Executed). x .written .device .choices) (high v) (raised-choices d v sent array) refl)
 
 sending-choices : (d : Device) (o v : ℕ) (sent : List ℕ) → sending d o v sent .written .device .choices ≡ d .choices
 sending-choices d o v sent =
@@ -73,7 +67,7 @@ sending-choices d o v sent =
 
 wrote-choices : (s : Sim) (o v : ℕ) → inAfter (wrote s o v) ≡ inSim s
 wrote-choices s o v =
-    either inAfter (eqb o 0x00) (configured-choices s v) (either inAfter (eqb (widthAt o) 0) refl (sending-choices (s .device) o v (s .sent)))
+    either inAfter (eqb o 0x00) (configured-choices (s .device) v (s .sent) (s .array)) (either inAfter (eqb (widthAt o) 0) refl (sending-choices (s .device) o v (s .sent)))
 
 pub write-choices : (s : Sim) (o v : ℕ) → inAfter (writeOf s o v) ≡ inSim s
 write-choices s o v = wrote-choices (passed s) o v ∙ passed-choices s

@@ -7,3 +7,4 @@ pub mod Executing
 pub mod Accesses
 pub mod Kept
 pub mod Instance
+pub mod Rows

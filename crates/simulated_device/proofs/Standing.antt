@@ -10,7 +10,7 @@ use lib.ListN.{length, take}
 use lib.Seq.{slice}
 use Rattle.zynq7000.specs.declared.qspi.Access.{Access}
 use Rattle.power_cut.specs.Flash.{Array, Work, done, Flash, flash}
-use Rattle.power_cut.specs.Controller.{high, AllOut, Trace, still}
+use Rattle.power_cut.specs.Controller.{high, Trace, still}
 use Rattle.power_cut.specs.Controller as controller
 use Rattle.power_cut.proofs.Control.{join}
 use Rattle.power_cut.proofs.Ways.{trace-append}
@@ -49,7 +49,7 @@ stands-as s {ws} {t} {u} {f} {w} {r} h k e₁ e₂ = rw (sym e₁, sym e₂) (st
 pub record Leads (e : controller.Device) (l : List Access) (s : Sim) : Type 0 where
   pub after : controller.Device
   pub standing : Stands s after
-  pub trace : Trace AllOut e l after
+  pub trace : Trace e l after
 
 pub nowhere : {e : controller.Device} {s : Sim} → Stands s e → Leads e [] s
 nowhere {e} h = record { after = e; standing = h; trace = still }

@@ -12,7 +12,7 @@ use lib.Seq.{sets, take-all}
 use Rattle.zedboard_bsp.specs.Words.{bytesOf}
 use Rattle.qspi_operation.proofs.Verdicts.{no}
 use Rattle.power_cut.specs.Controller.{high}
-use Rattle.simulated_device.specs.Simulated.{Sim, simOf, canGo, canGoNow, wordOut, outFor, allOut, withTx, waited, passed, widthAt, doneByte, doneFrom, within, askedFor, executed, accepted, refusal, withConfig, noWords, latched, Executed, afterExecuted, risen, afterOf, configured, raised, started, wrote, writeOf, Sent, oneMore, isSent, sending, afterSent, After}
+use Rattle.simulated_device.specs.Simulated.{Sim, simOf, canGo, canGoNow, wordOut, withTx, waited, passed, widthAt, doneByte, doneFrom, within, askedFor, executed, accepted, refusal, withConfig, noWords, latched, Executed, keeping, afterExecuted, afterOf, configured, raised, started, wrote, writeOf, Sent, oneMore, isSent, sending, afterSent, After}
 use Rattle.simulated_device.specs.declared.Device.{Device}
 use Rattle.simulated_device.specs.declared.Rx.{Rx}
 use Rattle.simulated_device.specs.declared.Tx.{Tx}
@@ -43,41 +43,6 @@ released-not-out t r room h = ltb-true _ _ (both-true (ltb (t .out) (t .released
 
 pub has-room : (t : Tx) (r : Rx) (room : ℕ) → canGo t r room ≡ true → r .put < room
 has-room t r room h = ltb-true _ _ (both-true (ltb (t .out) (t .released)) (ltb (r .put) room) h .1)
-
-out-again : (n : ℕ) (s : Sim) → canGoNow s ≡ true → outFor (suc n) s ≡ outFor n (wordOut s)
-unfolding outFor
-out-again n s h = simp h
-
-out-over : (n : ℕ) (s : Sim) → canGoNow s ≡ false → outFor n s ≡ s
-unfolding outFor
-out-over zero s h = refl
-out-over (suc n) s h = simp h
-
-pub one-goes-out : (s : Sim) → canGoNow s ≡ true → allOut s ≡ allOut (wordOut s)
-unfolding allOut
-one-goes-out s h =
-    let before : s .device .tx .out < s .device .tx .released = released-not-out (s .device .tx) (s .device .rx) (length (s .received)) h in
-    let e : s .device .tx .released - s .device .tx .out ≡ suc (s .device .tx .released - (s .device .tx .out + 1)) = omega arith in
-    rw e (out-again (s .device .tx .released - (s .device .tx .out + 1)) s h)
-
-pub none-goes-out : (s : Sim) → canGoNow s ≡ false → allOut s ≡ s
-unfolding allOut
-none-goes-out s h = out-over (s .device .tx .released - s .device .tx .out) s h
-
--- only the device and the words received are others then
-all-keeps : (n : ℕ) (s : Sim) → simOf (outFor n s .device) (s .sent) (outFor n s .received) (s .array) ≡ outFor n s
-unfolding outFor
-all-keeps zero s = refl
-all-keeps (suc n) s = by-test (canGoNow s) (all-keeps n (wordOut s))
-  where
-    by-test : (b : Bool) → simOf (outFor n (wordOut s) .device) (s .sent) (outFor n (wordOut s) .received) (s .array) ≡ outFor n (wordOut s)
-        → simOf (cond b (outFor n (wordOut s)) s .device) (s .sent) (cond b (outFor n (wordOut s)) s .received) (s .array) ≡ cond b (outFor n (wordOut s)) s
-    by-test true e = e
-    by-test false e = refl
-
-is-all-out : (s : Sim) {d : Device} {received : List ℕ} → (d ≡ allOut s .device) × (received ≡ allOut s .received) → simOf d (s .sent) received (s .array) ≡ allOut s
-unfolding allOut
-is-all-out s e = simp (e .0, e .1) (all-keeps (s .device .tx .released - s .device .tx .out) s)
 
 abbrev waiting : Sim → Sim
 waiting s = simOf (withTx (s .device) (waited (s .device .tx))) (s .sent) (s .received) (s .array)
@@ -193,64 +158,43 @@ module _ (d : Device) (v : ℕ) (sent array : List ℕ) (w : Work) (asked : w �
   works-done t i = simp (sym asked, t, i)
 
   pub works-refused : w .there ≡ true → within w (d .choices .base) (length array) ≡ false
-      → executed d v sent array ≡ record { written = refusal d; array = array }
+      → executed d v sent array ≡ keeping array (refusal d)
   works-refused t i = simp (sym asked, t, i)
 
   pub no-work-asked : w .there ≡ false
       → executed d v sent array
-      ≡ record { written = accepted (withConfig d v noWords (latched (d .chip) (d .tx .bytes) sent)); array = array }
+      ≡ keeping array (accepted (withConfig d v noWords (latched (d .chip) (d .tx .bytes) sent)))
   no-work-asked t = simp (sym asked, t)
 
 pub as-executed : {e f : Executed} {w : Written} {array : List ℕ} → e ≡ f → (w ≡ f .written) × (array ≡ f .array) → (w ≡ e .written) × (array ≡ e .array)
 as-executed e p = (p .0 ∙ sym (ap (λ (x : Executed). x .written) e), p .1 ∙ sym (ap (λ (x : Executed). x .array) e))
 
--- ---- chip select rises
+-- ---- config is written
 
-module _ (s : Sim) (v : ℕ) {d : Device} {received : List ℕ} (all : (d ≡ allOut s .device) × (received ≡ allOut s .received)) where
-  pub rises : d .tx .out ≡ d .tx .written
-      → raised s v ≡ afterExecuted (executed d v (s .sent) (s .array)) (simOf d (s .sent) received (s .array))
-  rises h = ap (λ (t : Sim). risen t v) (sym (is-all-out s all)) ∙ simp (eq-eqb _ _ h)
+module _ (d : Device) (v : ℕ) (sent array : List ℕ) where
+  -- chip select rises
+  pub rises : d .tx .out ≡ d .tx .written → raised d v sent array ≡ executed d v sent array
+  rises h = simp (eq-eqb _ _ h)
 
-  pub stays : (d .tx .out ≡ d .tx .written → ⊥) → raised s v ≡ afterOf (refusal d) (simOf d (s .sent) received (s .array))
-  stays h = ap (λ (t : Sim). risen t v) (sym (is-all-out s all)) ∙ simp (ne-eqb _ _ h)
+  pub stays : (d .tx .out ≡ d .tx .written → ⊥) → raised d v sent array ≡ keeping array (refusal d)
+  stays h = simp (ne-eqb _ _ h)
+
+  pub high-before : high (d .config) ≡ true → configured d v sent array ≡ keeping array (accepted (withConfig d v (d .tx) (d .chip)))
+  high-before h = simp h
+
+  pub high-now : high (d .config) ≡ false → high v ≡ true → configured d v sent array ≡ raised d v sent array
+  high-now h k = simp (h, k)
+
+  pub low-still : high (d .config) ≡ false → high v ≡ false → configured d v sent array ≡ keeping array (accepted (withConfig d v (started (d .tx) v) (d .chip)))
+  low-still h k = simp (h, k)
 
 -- ---- writes
-
-pub high-before : (s : Sim) (v : ℕ) → high (s .device .config) ≡ true
-    → configured s v ≡ afterOf (accepted (withConfig (s .device) v (s .device .tx) (s .device .chip))) s
-high-before s v h = simp h
-
-pub high-now : (s : Sim) (v : ℕ) → high (s .device .config) ≡ false → high v ≡ true → configured s v ≡ raised s v
-high-now s v h k = simp (h, k)
-
-pub low-still : (s : Sim) (v : ℕ) → high (s .device .config) ≡ false → high v ≡ false
-    → configured s v ≡ afterOf (accepted (withConfig (s .device) v (started (s .device .tx) v) (s .device .chip))) s
-low-still s v h k = simp (h, k)
-
--- config does not change what was sent
-by-either : (b : Bool) (x y : After) (l : List ℕ) → l ≡ x .sent → l ≡ y .sent → l ≡ cond b x y .sent
-by-either true x y l p q = p
-by-either false x y l p q = q
-
-same-sent : (s : Sim) (v : ℕ) → s .sent ≡ configured s v .sent
-same-sent s v =
-    let x = allOut s in
-    let all : s .sent ≡ allOut s .sent = ap (λ (t : Sim). t .sent) (is-all-out s (refl, refl)) in
-    let effect = afterExecuted (executed (x .device) v (x .sent) (x .array)) x in
-    let rise = by-either (eqb (x .device .tx .out) (x .device .tx .written)) effect (afterOf (refusal (x .device)) x) (s .sent) all all in
-    let alone = afterOf (accepted (withConfig (s .device) v (s .device .tx) (s .device .chip))) s in
-    let low = afterOf (accepted (withConfig (s .device) v (started (s .device .tx) v) (s .device .chip))) s in
-    by-either (high (s .device .config)) alone (cond (high v) (raised s v) low) (s .sent) refl
-    (by-either (high v) (raised s v) low (s .sent) rise refl)
 
 module _ (s : Sim) (o v : ℕ) {d : Device} {received : List ℕ} (first : (d ≡ passed s .device) × (received ≡ passed s .received)) where
   left-over : writeOf s o v ≡ wrote (simOf d (s .sent) received (s .array)) o v
   left-over = ap (λ (t : Sim). wrote t o v) (sym (is-passed s first))
 
-  pub sent-before : s .sent ≡ configured (simOf d (s .sent) received (s .array)) v .sent
-  sent-before = same-sent (simOf d (s .sent) received (s .array)) v
-
-  pub writes-config : o ≡ 0 → writeOf s o v ≡ configured (simOf d (s .sent) received (s .array)) v
+  pub writes-config : o ≡ 0 → writeOf s o v ≡ afterExecuted (configured d v (s .sent) (s .array)) (simOf d (s .sent) received (s .array))
   writes-config h = left-over ∙ simp (eq-eqb _ _ h)
 
   pub writes-other : (o ≡ 0 → ⊥) → widthAt o ≡ 0 → writeOf s o v ≡ afterOf (accepted d) (simOf d (s .sent) received (s .array))
@@ -265,9 +209,3 @@ AfterIs x w sent received array = (w ≡ x .written) × ((sent ≡ x .sent) × (
 
 pub as-after : {x y : After} {w : Written} {sent received array : List ℕ} → x ≡ y → AfterIs y w sent received array → AfterIs x w sent received array
 as-after {w = w} {sent = sent} {received = received} {array = array} e p = subst (λ (x : After). AfterIs x w sent received array) (sym e) p
-
--- without what was sent, which the code does not change
-pub as-raised : {x y : After} {w : Written} {received array : List ℕ} → x ≡ y
-    → (w ≡ y .written) × ((received ≡ y .received) × (array ≡ y .array)) → (w ≡ x .written) × ((received ≡ x .received) × (array ≡ x .array))
-as-raised {w = w} {received = received} {array = array} e p =
-    subst (λ (x : After). (w ≡ x .written) × ((received ≡ x .received) × (array ≡ x .array))) (sym e) p

@@ -14,7 +14,7 @@ use Rattle.qspi_operation.specs.declared.Reply.{Reply}
 use Rattle.qspi_operation.specs.declared.Reply.the-variants.{Nothing}
 use Rattle.qspi_operation.specs.declared.Stepped.{Stepped}
 use Rattle.simulated_device.specs.Simulated.{Sim, passed, readOf, writeOf}
-use Rattle.simulated_device.specs.Running.{Turn, ranOf, turnAt, simIn, stepped, Meeting, metOf, metRead, metWrite, nothingFor, metOn, dueIn, afterMeeting, turnOf, goesOn, turns, simulated}
+use Rattle.simulated_device.specs.Running.{Turn, ranOf, turnAt, simIn, stepped, Meeting, metOf, metRead, metWrite, nothingFor, metOn, dueIn, afterMeeting, turnOf, goesOn, turns}
 use Rattle.simulated_device.specs.declared.Given.{Given}
 use Rattle.simulated_device.specs.declared.Written.{Written}
 use Rattle.simulated_device.specs.declared.run.Met.{Met}
@@ -120,15 +120,15 @@ module _ (replies : ℕ) (bytes : List ℕ) where
   turn-again n t g e = simp g (ap (λ (x : Turn). turns n replies bytes x) (sym e))
 
   pub turn-more : (left : ℕ) (t : Turn) {u : Turn} → goesOn (t .ran) ≡ true → u ≡ turnOf replies bytes t → (left ≡ 0 → ⊥)
-      → turns (suc left) replies bytes t ≡ turns (suc (left - 1)) replies bytes u
+      → turns left replies bytes t ≡ turns (left - 1) replies bytes u
   turn-more left t {u} g e h =
       let more : left ≡ suc (left - 1) = omega (arith, h) in
-      turn-again left t g e ∙ ap (λ (n : ℕ). turns n replies bytes u) more
+      ap (λ (n : ℕ). turns n replies bytes t) more ∙ turn-again (left - 1) t g e
 
-  pub turn-last : (left : ℕ) (t : Turn) {u : Turn} → goesOn (t .ran) ≡ true → u ≡ turnOf replies bytes t → left ≡ 0
-      → turns (suc left) replies bytes t ≡ u
+  -- the power fails
+  pub none-left : (left : ℕ) (t : Turn) → left ≡ 0 → turns left replies bytes t ≡ t
   unfolding turns
-  turn-last left t {u} g e h = turn-again left t g e ∙ ap (λ (n : ℕ). turns n replies bytes u) h
+  none-left left t h = rw h refl
 
   pub no-turn : (n : ℕ) (t : Turn) → goesOn (t .ran) ≡ false → turns n replies bytes t ≡ t
   unfolding turns
@@ -136,10 +136,6 @@ module _ (replies : ℕ) (bytes : List ℕ) where
   no-turn (suc n) t g = simp g
 
   -- the device refused
-  pub turn-over : (n : ℕ) (t : Turn) {u : Turn} → goesOn (t .ran) ≡ true → u ≡ turnOf replies bytes t → goesOn (u .ran) ≡ false
-      → turns (suc n) replies bytes t ≡ u
-  turn-over n t {u} g e h = turn-again n t g e ∙ no-turn n u h
-
-  pub runs : (t : Turn) → simulated replies bytes t ≡ turns (suc (length (t .log))) replies bytes t
-  unfolding simulated
-  runs t = refl
+  pub turn-over : (left : ℕ) (t : Turn) {u : Turn} → goesOn (t .ran) ≡ true → u ≡ turnOf replies bytes t → (left ≡ 0 → ⊥) → goesOn (u .ran) ≡ false
+      → turns left replies bytes t ≡ u
+  turn-over left t {u} g e n h = turn-more left t g e n ∙ no-turn (left - 1) u h

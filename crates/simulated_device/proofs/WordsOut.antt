@@ -11,11 +11,11 @@ use lib.Seq.{slice, take-suc-set, getD-take, length-take-le, drop-append-le}
 use borrow.Author.Tests.{lt-ltb, le-ltb, ltb-true, eqb-true, eqb-false, eq-eqb}
 use Rattle.zedboard_bsp.specs.Words.{wordOf}
 use Rattle.power_cut.specs.Flash.{Flash, busy, settles}
-use Rattle.power_cut.specs.Controller.{isStatusRead, showsBusy, showsProgramError, showsEraseError, Shows, out, idle, AllOut, Trace, still, quiet}
+use Rattle.power_cut.specs.Controller.{isStatusRead, showsBusy, showsProgramError, showsEraseError, Shows, out, idle, Trace, still, quiet}
 use Rattle.power_cut.specs.Controller as controller
 use Rattle.power_cut.proofs.Control.{join}
 use Rattle.simulated_device.specs.Replies.{statusOf, replyOf}
-use Rattle.simulated_device.specs.Simulated.{Sim, simOf, shown, canGoNow, wordOut, withTx, waited, passed, outFor, allOut}
+use Rattle.simulated_device.specs.Simulated.{Sim, simOf, shown, canGoNow, wordOut, withTx, waited, passed}
 use Rattle.simulated_device.specs.declared.Chip.{Chip}
 use Rattle.simulated_device.proofs.Steps.{released-not-out, has-room}
 use Rattle.simulated_device.proofs.Standing.{Holds, resting, working, Fits, Stands, stands, stands-as, Leads, nowhere, on}
@@ -77,7 +77,7 @@ reply-shows v c base sent array words f bs h first =
 record Later (c : Chip) (base : ℕ) (array : List ℕ) (v : ℕ) (t u : List (List ℕ)) (w r : List ℕ) (f : Flash) : Type 0 where
   flash₁ : Flash
   holds : Holds c base array flash₁
-  trace : Trace AllOut (controller.device v t u w r f) [] (controller.device v t u w r flash₁)
+  trace : Trace (controller.device v t u w r f) [] (controller.device v t u w r flash₁)
 
 later : (c : Chip) (command base : ℕ) (array : List ℕ) (v : ℕ) (t u : List (List ℕ)) (w r : List ℕ) (f : Flash) → Holds c base array f
     → Later (shown c command) base array v t u w r f
@@ -145,7 +145,7 @@ module _ (s : Sim) (can : canGoNow s ≡ true) where
   pub word-out : (e : controller.Device) → Stands s e → Leads e [] (wordOut s)
   word-out e (stands {ws} {t} {u} {f} h k) = goes ws t u f h k
 
--- ---- between two accesses, and before chip select rises
+-- ---- between two accesses
 
 waits : (s : Sim) (e : controller.Device) → Stands s e → Stands (simOf (withTx (s .device) (waited (s .device .tx))) (s .sent) (s .received) (s .array)) e
 waits s e (stands {ws} {t} {u} {f} h k) =
@@ -161,19 +161,3 @@ passes s e h = go (eqb (s .device .tx .pause) 0) (canGoNow s) refl
     go true true can = word-out s can e h
     go true false can = nowhere (waits s e h)
     go false b can = nowhere (waits s e h)
-
-out-for : (n : ℕ) (s : Sim) (e : controller.Device) → Stands s e → Leads e [] (outFor n s)
-unfolding outFor
-out-for zero s e h = nowhere h
-out-for (suc n) s e h = go (canGoNow s) refl (out-for n (wordOut s))
-  where
-    go : (b : Bool) → canGoNow s ≡ b → ((e₁ : controller.Device) → Stands (wordOut s) e₁ → Leads e₁ [] (outFor n (wordOut s)))
-        → Leads e [] (cond b (outFor n (wordOut s)) s)
-    go true can more =
-        let x = word-out s can e h in
-        on x (more (x .after) (x .standing))
-    go false can more = nowhere h
-
-pub all-out : (s : Sim) (e : controller.Device) → Stands s e → Leads e [] (allOut s)
-unfolding allOut
-all-out s e h = out-for (s .device .tx .released - s .device .tx .out) s e h

@@ -1,4 +1,5 @@
 pub mod Replies
 pub mod Simulated
 pub mod Running
+pub mod Row
 pub mod Instance

@@ -95,15 +95,10 @@ turnOf replies bytes t =
 abbrev pub goesOn : Ran → Bool
 goesOn r = cond (r .refused) false (isGoing (r .answer))
 
--- at most n steps
+-- to the end, or until the power fails after n accesses: a step makes one, or is the last
 unfoldable pub turns : ℕ → ℕ → List ℕ → Turn → Turn
 turns zero replies bytes t = t
 turns (suc n) replies bytes t = cond (goesOn (t .ran)) (turns n replies bytes (turnOf replies bytes t)) t
-
--- to the end: each step but the last takes two words of log
-unfoldable pub simulated : ℕ → List ℕ → Turn → Turn
-unfolding turns
-simulated replies bytes t = turns (suc (length (t .log))) replies bytes t
 
 abbrev pub beginning : Op → Device → List ℕ → List ℕ → List ℕ → List ℕ → List ℕ → Turn
 beginning o d buffer log sent received array =

@@ -94,16 +94,6 @@ passed s =
     (cond (canGoNow s) (wordOut s) (simOf (withTx (s .device) (waited (s .device .tx))) (s .sent) (s .received) (s .array)))
     (simOf (withTx (s .device) (waited (s .device .tx))) (s .sent) (s .received) (s .array))
 
--- so many words at most
-unfoldable pub outFor : ℕ → Sim → Sim
-outFor zero s = s
-outFor (suc n) s = cond (canGoNow s) (outFor n (wordOut s)) s
-
--- "all words have gone out before chip select rises" (demand 3)
-unfoldable pub allOut : Sim → Sim
-unfolding outFor
-allOut s = outFor (s .device .tx .released - s .device .tx .out) s
-
 -- ---- reads
 
 abbrev pub afterTake : Rx → Rx
@@ -237,6 +227,10 @@ pub record Executed : Type 0 where
   pub written : Written
   pub array : List ℕ
 
+-- the array stays as it is
+abbrev pub keeping : List ℕ → Written → Executed
+keeping array w = record { written = w; array = array }
+
 abbrev pub works : Device → ℕ → Work → List ℕ → List ℕ → Executed
 works d v w sent array =
     cond (within w (d .choices .base) (length array))
@@ -244,38 +238,34 @@ works d v w sent array =
       written = accepted (withConfig d v noWords (record { latch = false; busy = d .choices .«busy_reads» }));
       array = doneFrom (w .size) 0 w (w .target - d .choices .base) (d .tx .bytes) sent array;
     })
-    (record { written = refusal d; array = array })
+    (keeping array (refusal d))
 
 -- "A command takes effect when chip select rises"; work outside of the lent part is refused
 abbrev pub executed : Device → ℕ → List ℕ → List ℕ → Executed
 executed d v sent array =
     cond (askedFor (d .chip) (d .tx .bytes) sent .there)
     (works d v (askedFor (d .chip) (d .tx .bytes) sent) sent array)
-    (record { written = accepted (withConfig d v noWords (latched (d .chip) (d .tx .bytes) sent)); array = array })
+    (keeping array (accepted (withConfig d v noWords (latched (d .chip) (d .tx .bytes) sent))))
+
+-- chip select rises; over a word that is not out it is refused
+abbrev pub raised : Device → ℕ → List ℕ → List ℕ → Executed
+raised d v sent array = cond (eqb (d .tx .out) (d .tx .written)) (executed d v sent array) (keeping array (refusal d))
+
+-- "chip select is low while bit 10 is clear"
+abbrev pub configured : Device → ℕ → List ℕ → List ℕ → Executed
+configured d v sent array =
+    cond (high (d .config)) (keeping array (accepted (withConfig d v (d .tx) (d .chip))))
+    (cond (high v) (raised d v sent array) (keeping array (accepted (withConfig d v (started (d .tx) v) (d .chip)))))
 
 abbrev pub afterExecuted : Executed → Sim → After
 afterExecuted e s = record { written = e .written; sent = s .sent; received = s .received; array = e .array }
-
-abbrev pub risen : Sim → ℕ → After
-risen s v =
-    cond (eqb (s .device .tx .out) (s .device .tx .written)) (afterExecuted (executed (s .device) v (s .sent) (s .array)) s) (afterOf (refusal (s .device)) s)
-
--- chip select rises; words that start never released are refused
-abbrev pub raised : Sim → ℕ → After
-raised s v = risen (allOut s) v
-
--- "chip select is low while bit 10 is clear"
-abbrev pub configured : Sim → ℕ → After
-configured s v =
-    cond (high (s .device .config)) (afterOf (accepted (withConfig (s .device) v (s .device .tx) (s .device .chip))) s)
-    (cond (high v) (raised s v) (afterOf (accepted (withConfig (s .device) v (started (s .device .tx) v) (s .device .chip))) s))
 
 abbrev pub afterSent : Sent → Sim → After
 afterSent x s = record { written = x .written; sent = x .sent; received = s .received; array = s .array }
 
 abbrev pub wrote : Sim → ℕ → ℕ → After
 wrote s o v =
-    cond (eqb o 0x00) (configured s v) (cond (eqb (widthAt o) 0) (afterOf (accepted (s .device)) s) (afterSent (sending (s .device) o v (s .sent)) s))
+    cond (eqb o 0x00) (afterExecuted (configured (s .device) v (s .sent) (s .array)) s) (cond (eqb (widthAt o) 0) (afterOf (accepted (s .device)) s) (afterSent (sending (s .device) o v (s .sent)) s))
 
 abbrev pub writeOf : Sim → ℕ → ℕ → After
 writeOf s o v = wrote (passed s) o v

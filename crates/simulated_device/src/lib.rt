@@ -11,6 +11,7 @@ use zynq7000::qspi;
 use zynq7000::qspi::Config;
 
 pub mod reply;
+pub mod row;
 pub mod run;
 pub mod words;
 pub mod work;
@@ -258,10 +259,9 @@ fn set_config(d: Device, config: u32, tx: Tx, chip: Chip) -> Written
     accepted(with_config(d, config, tx, chip))
 }
 
-fn configure(d: Device, value: u32, sent: &[u8], received: &mut [u32], array: &mut [u8]) -> Written
-    ensures written { λ r. ⌜ r ≡ configured (simOf d (now (sent .entry)) (now (received .entry)) (now (array .entry))) value .written ⌝ }
-    ensures received { λ _. ⌜ now (received .exit) ≡ configured (simOf d (now (sent .entry)) (now (received .entry)) (now (array .entry))) value .received ⌝ }
-    ensures array { λ _. ⌜ now (array .exit) ≡ configured (simOf d (now (sent .entry)) (now (received .entry)) (now (array .entry))) value .array ⌝ }
+fn configure(d: Device, value: u32, sent: &[u8], array: &mut [u8]) -> Written
+    ensures written { λ r. ⌜ r ≡ configured d value (now (sent .entry)) (now (array .entry)) .written ⌝ }
+    ensures array { λ _. ⌜ now (array .exit) ≡ configured d value (now (sent .entry)) (now (array .entry)) .array ⌝ }
 {
     let chip = d.chip;
     if is_high(d.config) {
@@ -269,7 +269,7 @@ fn configure(d: Device, value: u32, sent: &[u8], received: &mut [u32], array: &m
         return set_config(d, value, tx, chip);
     }
     if is_high(value) {
-        return raise(d, value, sent, received, array);
+        return raise(d, value, sent, array);
     }
     set_config(d, value, words::started(d.tx, value), chip)
 }
@@ -290,7 +290,7 @@ pub fn write(
 {
     let x = words::pass(d, sent, received, array);
     if offset == qspi::CONFIG {
-        return configure(x, value, sent, received, array);
+        return configure(x, value, sent, array);
     }
     if words::width(offset) == 0 {
         return accepted(x);

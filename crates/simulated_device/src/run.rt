@@ -5,7 +5,7 @@ ghost use Prim.Native.Nat.{_-_};
 ghost use Rattle.qspi_operation.specs.declared.Reply.the-variants.{Nothing};
 ghost use Rattle.qspi_operation.specs.Step.{sameLengths};
 ghost use Rattle.simulated_device.specs.Simulated.{simOf};
-ghost use Rattle.simulated_device.specs.Running.{metOf, metRead, metWrite, metOn, dueIn, beginning, simulated};
+ghost use Rattle.simulated_device.specs.Running.{metOf, metRead, metWrite, metOn, dueIn, beginning, turns};
 use crate::Device;
 use crate::Given;
 use crate::Written;
@@ -122,10 +122,12 @@ fn meet(
     nothing_for(device)
 }
 
-// Steps a call to its end, each read with the reply that the device gives, so many of them at most.
+// Steps a call to its end, or until the power fails after so many accesses: each read with the reply that
+// the device gives, so many of them at most.
 pub fn run(
     mut op: Op,
     mut device: Device,
+    accesses: usize,
     replies: usize,
     data: &[u8],
     buffer: &mut [u8],
@@ -134,17 +136,20 @@ pub fn run(
     received: &mut [u32],
     array: &mut [u8],
 ) -> Ran
-    ensures ran { λ r. ⌜ r ≡ simulated replies (now («data» .entry)) (beginning op device (now (buffer .entry)) (now (log .entry)) (now (sent .entry)) (now (received .entry)) (now (array .entry))) .ran ⌝ }
-    ensures buffer { λ _. ⌜ now (buffer .exit) ≡ simulated replies (now («data» .entry)) (beginning op device (now (buffer .entry)) (now (log .entry)) (now (sent .entry)) (now (received .entry)) (now (array .entry))) .buffer ⌝ }
-    ensures log { λ _. ⌜ now (log .exit) ≡ simulated replies (now («data» .entry)) (beginning op device (now (buffer .entry)) (now (log .entry)) (now (sent .entry)) (now (received .entry)) (now (array .entry))) .log ⌝ }
-    ensures sent { λ _. ⌜ now (sent .exit) ≡ simulated replies (now («data» .entry)) (beginning op device (now (buffer .entry)) (now (log .entry)) (now (sent .entry)) (now (received .entry)) (now (array .entry))) .sent ⌝ }
-    ensures received { λ _. ⌜ now (received .exit) ≡ simulated replies (now («data» .entry)) (beginning op device (now (buffer .entry)) (now (log .entry)) (now (sent .entry)) (now (received .entry)) (now (array .entry))) .received ⌝ }
-    ensures array { λ _. ⌜ now (array .exit) ≡ simulated replies (now («data» .entry)) (beginning op device (now (buffer .entry)) (now (log .entry)) (now (sent .entry)) (now (received .entry)) (now (array .entry))) .array ⌝ }
+    ensures ran { λ r. ⌜ r ≡ turns accesses replies (now («data» .entry)) (beginning op device (now (buffer .entry)) (now (log .entry)) (now (sent .entry)) (now (received .entry)) (now (array .entry))) .ran ⌝ }
+    ensures buffer { λ _. ⌜ now (buffer .exit) ≡ turns accesses replies (now («data» .entry)) (beginning op device (now (buffer .entry)) (now (log .entry)) (now (sent .entry)) (now (received .entry)) (now (array .entry))) .buffer ⌝ }
+    ensures log { λ _. ⌜ now (log .exit) ≡ turns accesses replies (now («data» .entry)) (beginning op device (now (buffer .entry)) (now (log .entry)) (now (sent .entry)) (now (received .entry)) (now (array .entry))) .log ⌝ }
+    ensures sent { λ _. ⌜ now (sent .exit) ≡ turns accesses replies (now («data» .entry)) (beginning op device (now (buffer .entry)) (now (log .entry)) (now (sent .entry)) (now (received .entry)) (now (array .entry))) .sent ⌝ }
+    ensures received { λ _. ⌜ now (received .exit) ≡ turns accesses replies (now («data» .entry)) (beginning op device (now (buffer .entry)) (now (log .entry)) (now (sent .entry)) (now (received .entry)) (now (array .entry))) .received ⌝ }
+    ensures array { λ _. ⌜ now (array .exit) ≡ turns accesses replies (now («data» .entry)) (beginning op device (now (buffer .entry)) (now (log .entry)) (now (sent .entry)) (now (received .entry)) (now (array .entry))) .array ⌝ }
 {
     let mut answer = op.status;
-    // At most one step more than there are words of log.
-    let mut left = log.len();
+    let mut left = accesses;
     while qspi_operation::is_going(answer) {
+        if left == 0 {
+            break;
+        }
+        left -= 1;
         let due = due_in(op, data, buffer.len(), log.len());
         let met = meet(due, op.replies < replies, device, sent, received, array);
         device = met.device;
@@ -160,10 +165,6 @@ pub fn run(
         let s = qspi_operation::step(op, data, buffer, log, reply);
         op = s.op;
         answer = s.answer;
-        if left == 0 {
-            break;
-        }
-        left -= 1;
     }
     Ran {
         op,

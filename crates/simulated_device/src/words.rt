@@ -5,7 +5,7 @@ ghost use Prim.Native.Nat.{_+_, _≤_};
 ghost use lib.ListN.{length, take};
 ghost use lib.Seq.{sets};
 ghost use Rattle.zedboard_bsp.specs.Words.{bytesOf};
-ghost use Rattle.simulated_device.specs.Simulated.{simOf, shown, canGo, wordOut, waited, passed, allOut, widthAt, sending, started};
+ghost use Rattle.simulated_device.specs.Simulated.{simOf, shown, canGo, wordOut, waited, passed, widthAt, sending, started};
 use crate::Chip;
 use crate::Device;
 use crate::Rx;
@@ -98,17 +98,6 @@ pub fn pass(d: Device, sent: &[u8], received: &mut [u32], array: &[u8]) -> Devic
         }
     }
     waiting
-}
-
-// "All words have gone out before chip select rises" (demand 3).
-pub fn all_out(mut d: Device, sent: &[u8], received: &mut [u32], array: &[u8]) -> Device
-    ensures device { λ r. ⌜ r ≡ allOut (simOf d (now (sent .entry)) (now (received .entry)) (now (array .entry))) .device ⌝ }
-    ensures received { λ _. ⌜ now (received .exit) ≡ allOut (simOf d (now (sent .entry)) (now (received .entry)) (now (array .entry))) .received ⌝ }
-{
-    while can_go(d.tx, d.rx, received.len()) {
-        d = word_out(d, sent, received, array);
-    }
-    d
 }
 
 // ---- words are written

@@ -2,12 +2,11 @@
 ghost use mathlib.Core.Path.{_≡_};
 ghost use Prim.Native.Nat.{_+_, _-_, _≤_};
 ghost use lib.ListN.{length};
-ghost use Rattle.simulated_device.specs.Simulated.{simOf, noWork, programming, erasing, askedFor, within, doneByte, doneFrom, latched, executed, raised};
+ghost use Rattle.simulated_device.specs.Simulated.{noWork, programming, erasing, askedFor, within, doneByte, doneFrom, latched, executed, raised};
 use crate::Chip;
 use crate::Device;
 use crate::Written;
 use crate::reply;
-use crate::words;
 use zedboard_bsp::qspi_spansion::PAGE_SIZE;
 use zedboard_bsp::qspi_spansion::SECTOR_SIZE;
 
@@ -170,16 +169,14 @@ fn execute(d: Device, value: u32, sent: &[u8], array: &mut [u8]) -> Written
     crate::set_config(d, value, crate::no_words(), chip)
 }
 
-// Chip select rises, once all words are out. Words that start never released are refused.
-pub fn raise(d: Device, value: u32, sent: &[u8], received: &mut [u32], array: &mut [u8]) -> Written
-    ensures written { λ r. ⌜ r ≡ raised (simOf d (now (sent .entry)) (now (received .entry)) (now (array .entry))) value .written ⌝ }
-    ensures received { λ _. ⌜ now (received .exit) ≡ raised (simOf d (now (sent .entry)) (now (received .entry)) (now (array .entry))) value .received ⌝ }
-    ensures array { λ _. ⌜ now (array .exit) ≡ raised (simOf d (now (sent .entry)) (now (received .entry)) (now (array .entry))) value .array ⌝ }
+// Chip select rises. Over a word that is not out it is refused: the driver is to wait for each of them.
+pub fn raise(d: Device, value: u32, sent: &[u8], array: &mut [u8]) -> Written
+    ensures written { λ r. ⌜ r ≡ raised d value (now (sent .entry)) (now (array .entry)) .written ⌝ }
+    ensures array { λ _. ⌜ now (array .exit) ≡ raised d value (now (sent .entry)) (now (array .entry)) .array ⌝ }
 {
-    let x = words::all_out(d, sent, received, array);
-    let tx = x.tx;
+    let tx = d.tx;
     if tx.out == tx.written {
-        return execute(x, value, sent, array);
+        return execute(d, value, sent, array);
     }
-    crate::refused(x)
+    crate::refused(d)
 }

@@ -3,7 +3,7 @@ use mathlib.Core.Path.{refl, sym, _∙_}
 use borrow.Author.Needs.{needs}
 use denote.Ref.{now}
 use Rattle.simulated_device.specs.Simulated.{Sim, simOf}
-use Rattle.simulated_device.proofs.Steps.{writes-config, writes-other, writes-word, as-after, sent-before}
+use Rattle.simulated_device.proofs.Steps.{writes-config, writes-other, writes-word, as-after}
 use Rattle.simulated_device.proofs.write.Statement.{statement}
 use Rattle.simulated_device.proofs.write.Tie as tie
 
@@ -29,11 +29,10 @@ same-length-3 c = search needs
 
 returns : tie.Need-returns
 returns c =
-    let x = c .before .before .before .before .before .before .before .before .before .before .before .before .before .before .before .before .before .before .args in
-    let s = entry (c .before .before .before .before .before .before .before .before .before .before .before .before .before .before .before .before .before .before) in
-    let p = c .before .before .before .before .configure .ensures in
-    let first = c .before .before .before .before .before .before .before .before .before .before .before .pass .ensures in
-    as-after (writes-config s (x .offset) (x .value) first (c .before .before .before .before .before .before .before .before .if1 .taken)) (p .0, (sent-before s (x .offset) (x .value) first, (p .1 .0, p .1 .1)))
+    let x = c .before .before .before .before .before .before .before .before .before .before .before .before .before .before .before .args in
+    let s = entry (c .before .before .before .before .before .before .before .before .before .before .before .before .before .before .before) in
+    let p = c .before .before .configure .ensures in
+    as-after (writes-config s (x .offset) (x .value) (c .before .before .before .before .before .before .before .before .pass .ensures) (c .before .before .before .before .before .if1 .taken)) (p .0, (refl, (refl, p .1)))
 
 width-requires : tie.Need-width-requires
 width-requires c κs = search needs

@@ -1,4 +1,4 @@
--- `sim_console::lines::read` is safe and ends: each line takes a byte at least, so there are no more lines than bytes. Assumes nothing.
+-- `sim_console::lines::read` is safe and ends: each line takes a byte at least. Assumes nothing.
 use Prim.Native.Nat.{_+_, _-_, _≤_}
 use mathlib.Core.Path.{_≡_}
 use lib.ListN.{length}
@@ -8,10 +8,13 @@ use Rattle.sim_console.proofs.lines.read.Statement.{statement}
 use Rattle.sim_console.proofs.lines.read.Tie as tie
 
 abbrev Inv-loop : tie.InvT-loop
-Inv-loop input base end said₀ bytes₀ at₀ line₀ said bytes at line = (line ≤ at) × ((at ≤ length input + 1) × ((length said ≡ length said₀) × (length bytes ≡ length bytes₀)))
+Inv-loop input base end said₀ bytes₀ at₀ line₀ said bytes at line = (at ≤ length input + 1) × ((length said ≡ length said₀) × (length bytes ≡ length bytes₀))
 
 abbrev μ-loop : tie.MeasureT-loop
 μ-loop input base end said₀ bytes₀ at₀ line₀ said bytes at line = length input + 1 - at
+
+of-requires : tie.Need-of-requires Inv-loop μ-loop
+of-requires c κs = tt
 
 loop-holds : tie.Need-loop-holds Inv-loop μ-loop
 loop-holds c = search needs
@@ -34,8 +37,8 @@ without-cr-requires c κs = tt
 add-at : tie.Need-add-at Inv-loop μ-loop
 add-at c = omega arith
 
-add-line : tie.Need-add-line Inv-loop μ-loop
-add-line c = omega arith
+wrapping-add-usize-requires : tie.Need-wrapping-add-usize-requires Inv-loop μ-loop
+wrapping-add-usize-requires c κs = tt
 
 of-line-requires : tie.Need-of-line-requires Inv-loop μ-loop
 of-line-requires c κs = tt
@@ -70,6 +73,7 @@ read-spec =
     (tie.spec
     Inv-loop
     μ-loop
+    of-requires
     loop-holds
     past-requires
     sub-without-cr
@@ -77,7 +81,7 @@ read-spec =
     part-without-cr-end
     without-cr-requires
     add-at
-    add-line
+    wrapping-add-usize-requires
     of-line-requires
     same-length
     same-length-2

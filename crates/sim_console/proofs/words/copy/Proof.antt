@@ -1,11 +1,11 @@
--- `sim_console::copy` is safe and ends: it counts up to the length, which the writes keep. Assumes nothing.
+-- `sim_console::words::copy` is safe and ends: it counts up to the length, which the writes keep. Assumes nothing.
 use Prim.Native.Nat.{_-_}
 use mathlib.Core.Path.{_≡_}
 use lib.ListN.{length}
 use borrow.Author.Needs.{needs}
 use native.Mathlib.Omega.{arith}
-use Rattle.sim_console.proofs.copy.Statement.{statement}
-use Rattle.sim_console.proofs.copy.Tie as tie
+use Rattle.sim_console.proofs.words.copy.Statement.{statement}
+use Rattle.sim_console.proofs.words.copy.Tie as tie
 
 abbrev Inv-loop : tie.InvT-loop
 Inv-loop from to₀ i₀ to i = length to ≡ length to₀
