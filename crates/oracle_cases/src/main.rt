@@ -1,5 +1,5 @@
-// Replays a list of calls that the published Rust answered: each is made on the port, and its end printed
-// in one line. The stored output is the Rust's. `oracle/list` makes both files, and has the same rules.
+// Replays a list of calls that the published Rust with U2's wait answered: each is made on the port, and its
+// end printed in one line. The stored output is the Rust's. `oracle/list` makes both files, and has the same rules.
 //
 // Standard input, all numbers little-endian: how many reply words the dictionary has (two bytes, up to
 // 256), the words, and records to the end. A record is 14 bytes and a body:

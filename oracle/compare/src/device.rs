@@ -373,8 +373,8 @@ impl Device {
         }
     }
 
-    /// The words that were released are out before chip select rises. Their RX words wait for the next opening, as the last
-    /// one of a page program does.
+    /// The words that were released are out before chip select rises: a driver that did not wait for all of them leaves their RX words
+    /// to the next opening, as the published `program` does with its last one.
     fn raise_chip_select(&mut self) {
         while self.released > 0 {
             self.send_word();
@@ -454,6 +454,32 @@ mod tests {
             read(source, 0xFF00, &mut after);
             let expected = before.iter().zip(data.iter().chain(std::iter::repeat(&0xFF))).map(|(old, new)| old & new);
             assert!(after.iter().copied().eq(expected));
+        }
+    }
+
+    /// Ends a run where chip select rises before every word is out and its reply taken.
+    struct Watched(Device);
+
+    impl Source for Watched {
+        fn read(&mut self, offset: u32) -> Option<u32> {
+            self.0.read(offset)
+        }
+
+        fn write(&mut self, offset: u32, value: u32) {
+            let rises = offset == CONFIG && value & CHIP_SELECT != 0 && self.0.config & CHIP_SELECT == 0;
+            assert!(!rises || self.0.released == 0 && self.0.rx.is_empty(), "a word is left");
+            self.0.write(offset, value);
+        }
+    }
+
+    #[test]
+    fn no_word_is_left_when_chip_select_rises() {
+        for words in 0..=60 {
+            let mut rng = Rng::new(words as u64);
+            let knobs = Knobs { pace: 30, fault: 0, flicker: 0, config: IDLE_CONFIG, ..Knobs::drawn(&mut rng) };
+            let source = Box::new(Watched(Device::new(knobs, rng.fork())));
+            let source = done(&Call::Program { addr: 0, data: rng.bytes(4 * words) }, source, &mut []);
+            done(&Call::WritePages { addr: 0xFF00, data: rng.bytes(4 * words + 128) }, source, &mut []);
         }
     }
 

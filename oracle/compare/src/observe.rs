@@ -32,6 +32,8 @@ pub struct Observed {
     pub flickers: usize,
     /// Interrupt status reads inside a transfer that showed no word.
     pub waits: usize,
+    /// Those of page programs that had all replies but the last.
+    pub last_waits: usize,
 }
 
 /// The transfer that a log is in.
@@ -39,7 +41,15 @@ pub struct Observed {
 struct Transfer {
     command: Option<u8>,
     data_words: usize,
+    replies: usize,
     reply: Option<u32>,
+}
+
+impl Transfer {
+    /// A page program of which the last reply alone is out.
+    fn lacks_the_last(&self) -> bool {
+        self.command == Some(PAGE_PROGRAM) && self.replies == self.data_words
+    }
 }
 
 /// What is out and has no clean status yet.
@@ -92,15 +102,21 @@ impl Observer {
 
     fn interrupt_status(&mut self, value: u32, shown: bool) {
         self.shown = value & RX_WAITS != 0;
-        if self.transfer.is_some() && !self.shown {
+        if let Some(transfer) = &self.transfer
+            && !self.shown
+        {
             self.seen.waits += 1;
+            self.seen.last_waits += usize::from(transfer.lacks_the_last());
             self.seen.flickers += usize::from(shown);
         }
     }
 
     fn rx_data(&mut self, value: u32) {
         match &mut self.transfer {
-            Some(transfer) => transfer.reply = Some(value),
+            Some(transfer) => {
+                transfer.replies += 1;
+                transfer.reply = Some(value);
+            }
             None => self.seen.drains += 1,
         }
     }
@@ -172,6 +188,17 @@ mod tests {
     fn a_clean_status_finishes_a_sector() {
         let erased = [0x00, 0x40, 0x01, 0x20, 0x21, 0x41].map(|status| observe(&work(&ERASE, status)).erased);
         assert_eq!(erased, [1, 1, 0, 0, 0, 0]);
+    }
+
+    #[test]
+    fn the_last_wait_is_the_one_behind_all_other_replies() {
+        let (reply, wait) = ([0x120, 0], [0x104, 0]);
+        let waits = |replies: usize| {
+            let log = [&PROGRAM[..8], &reply.repeat(replies), &wait].concat();
+            observe(&log).last_waits
+        };
+        assert_eq!([0, 1, 2, 3].map(waits), [0, 0, 1, 0]);
+        assert_eq!(observe(&[&ERASE[..4], &wait[..]].concat()).last_waits, 0);
     }
 
     #[test]

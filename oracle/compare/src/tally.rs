@@ -8,6 +8,7 @@ use call::{Call, Ended};
 use std::fmt::Write;
 
 const ANSWERS: usize = 34;
+const LARGEST_PROGRAM: usize = 240;
 
 /// Answers that the Rust, a stop of its recorder, or the rules of a list can give to a kind of call.
 const fn expected(kind: Kind) -> &'static [u32] {
@@ -38,6 +39,9 @@ marks! {
     Drain = "waiting words drained",
     Late = "status read without a word",
     Flicker = "word shown, then hidden",
+    LastWait = "a wait for the last reply of a program",
+    EmptyProgram = "a program without data that is done",
+    LargestProgram = "a program of 240 bytes that is done",
     BusyErase = "busy polls of an erase",
     BusyProgram = "busy polls of a program",
     ErrorWhileErasing = "an error bit and busy together, erase",
@@ -126,6 +130,7 @@ impl Tally {
         self.mark(Mark::Drain, seen.drains > 0);
         self.mark(Mark::Late, seen.waits > 0);
         self.mark(Mark::Flicker, seen.flickers > 0);
+        self.mark(Mark::LastWait, seen.last_waits > 0);
         self.mark(Mark::ManyDrains, seen.drains >= LONG);
         self.mark(Mark::ManyWaits, seen.waits >= LONG);
         self.mark(Mark::ManyPolls, seen.busy >= LONG);
@@ -153,6 +158,10 @@ impl Tally {
     fn mark_chunks(&mut self, call: &Call, ended: &Ended) {
         let after = ended.programmed > 0;
         match (call, ended.answer) {
+            (Call::Program { data, .. }, 0) => {
+                self.mark(Mark::EmptyProgram, data.is_empty());
+                self.mark(Mark::LargestProgram, data.len() == LARGEST_PROGRAM);
+            }
             (Call::WritePages { .. }, 4) => self.mark(Mark::NotAlignedAfterChunks, after),
             (Call::WritePages { .. }, 5) => self.mark(Mark::CrossesAfterChunks, after),
             (Call::WritePages { .. }, 22) => self.mark(Mark::FailedAfterChunks, after),

@@ -1,6 +1,6 @@
-//! The published driver of the flash chip.
+//! The published driver of the flash chip, with the patch of document 02 on it (`build.rs`).
 #![no_std]
 
-#[path = "../../published/zedboard-bsp/src/qspi_spansion.rs"]
-#[rustfmt::skip]
-pub mod qspi_spansion;
+pub mod qspi_spansion {
+    include!(concat!(env!("OUT_DIR"), "/qspi_spansion.rs"));
+}

@@ -79,7 +79,7 @@ pub const MUTANTS: &[Mutant] = &[
         change_all(o, TX_DATA_FOUR, |word| if word & 0xFF == 0x02 { word } else { word.swap_bytes() });
     }),
     outcome("last_data_word_zero", WRITES, |_, o| change_last(o, TX_DATA_FOUR, |_| 0)),
-    outcome("last_reply_not_taken", PROGRAM, |_, o| {
+    outcome("last_reply_not_taken", WRITES, |_, o| {
         if let Some(at) = last_reply_of_program(o) {
             remove(o, at - 2, 3);
         }

@@ -1,7 +1,8 @@
-//! Wrong drivers: edits of a copy of the published text. Each is built and compared with the port, and must differ.
+//! Wrong drivers: edits of a copy of the published text, of its patch, or of what puts both together. Each is built and compared with
+//! the port, and must differ.
 //!
-//! An edit is a file with lines `kind:` (a kind of call that must catch it), `file:`, `after:` (a text that comes before the
-//! place, if the place alone is not unique), `old:` and `new:`.
+//! An edit is a file with lines `kind:` (a kind of call that must catch it; there may be several), `file:`, `after:` (a text that comes
+//! before the place, if the place alone is not unique), `old:` and `new:`.
 
 use crate::options::Options;
 use std::path::{Path, PathBuf};
@@ -16,10 +17,11 @@ struct Replacement {
     new: String,
 }
 
-/// An edit of the published text.
+/// A wrong driver.
 struct Edit {
     name: String,
-    kind: String,
+    /// Each must catch it.
+    kinds: Vec<String>,
     replacements: Vec<Replacement>,
 }
 
@@ -27,13 +29,13 @@ impl Edit {
     fn read(path: &Path) -> Result<Edit, String> {
         let name = path.file_stem().unwrap_or_default().to_string_lossy().into_owned();
         let text = fs::read_to_string(path).map_err(|error| format!("{}: {error}", path.display()))?;
-        let mut edit = Edit { name, kind: String::new(), replacements: Vec::new() };
+        let mut edit = Edit { name, kinds: Vec::new(), replacements: Vec::new() };
         let (mut file, mut after, mut old) = (PathBuf::new(), String::new(), String::new());
         for line in text.lines() {
             let (key, value) = line.split_once(':').ok_or_else(|| format!("{}: no key in {line}", edit.name))?;
             let value = value.trim();
             match key {
-                "kind" => edit.kind = value.to_owned(),
+                "kind" => edit.kinds.push(value.to_owned()),
                 "file" => file = value.into(),
                 "after" => after = value.to_owned(),
                 "old" => old = value.to_owned(),
@@ -144,10 +146,10 @@ pub fn try_edits(options: &Options) -> Result<(usize, usize), String> {
     let mut survived = 0;
     for edit in &edits {
         match try_edit(edit, &copy, options.seed)? {
-            Some(difference) => println!("caught    {:<42} by {}: {difference}", edit.name, edit.kind),
-            None => {
+            Ok(difference) => println!("caught    {:<42} by {}: {difference}", edit.name, edit.kinds.join(" and ")),
+            Err(kind) => {
                 survived += 1;
-                println!("SURVIVED  {}", edit.name);
+                println!("SURVIVED  {:<42} in {kind}", edit.name);
             }
         }
     }
@@ -161,24 +163,31 @@ fn read_edits(folder: &Path) -> Result<Vec<Edit>, String> {
     paths.iter().map(|path| Edit::read(path)).collect()
 }
 
-/// Builds the edited text, compares it and puts the published text back. Gives the difference.
-fn try_edit(edit: &Edit, copy: &Copy, seed: u64) -> Result<Option<String>, String> {
+/// Builds the edited text, puts the right one back and compares. Gives the difference that the first kind finds, or the kind that finds
+/// none.
+fn try_edit<'a>(edit: &'a Edit, copy: &Copy, seed: u64) -> Result<Result<String, &'a str>, String> {
     let failed = |error: io::Error| format!("{}: {error}", edit.name);
     let edited = edit.applied(&copy.workspace)?;
-    let published = edited.iter().map(|(path, _)| fs::read_to_string(path)).collect::<io::Result<Vec<_>>>();
-    let published = published.map_err(failed)?;
+    let right = edited.iter().map(|(path, _)| fs::read_to_string(path)).collect::<io::Result<Vec<_>>>();
+    let right = right.map_err(failed)?;
     for (path, text) in &edited {
         fs::write(path, text).map_err(failed)?;
     }
     let built = copy.build().map_err(failed)?;
-    for ((path, _), text) in edited.iter().zip(published) {
+    for ((path, _), text) in edited.iter().zip(right) {
         fs::write(path, text).map_err(failed)?;
     }
     if !built.status.success() {
         return Err(format!("{} does not build:\n{}", edit.name, String::from_utf8_lossy(&built.stderr)));
     }
-    let compared = copy.compare(&edit.kind, seed).map_err(failed)?;
-    Ok(difference(&compared))
+    let mut first = None;
+    for kind in &edit.kinds {
+        let Some(found) = difference(&copy.compare(kind, seed).map_err(failed)?) else {
+            return Ok(Err(kind));
+        };
+        first.get_or_insert(found);
+    }
+    first.map(Ok).ok_or_else(|| format!("{} names no kind of call", edit.name))
 }
 
 /// The line with the smallest difference. A panic of the edited driver or a missing answer is none.
@@ -206,13 +215,29 @@ mod tests {
     }
 
     #[test]
-    fn every_edit_applies_to_the_published_text() {
-        let workspace = Path::new(env!("CARGO_MANIFEST_DIR")).join("..");
+    fn every_edit_applies_and_the_patch_to_it() {
+        let workspace = Path::new(env!("CARGO_MANIFEST_DIR")).parent().expect("the oracle's folder");
         let edits = read_edits(&workspace.join("compare/mutants")).expect("edits");
         assert!(edits.len() >= 12);
         for edit in edits {
-            assert!(!edit.replacements.is_empty());
-            edit.applied(&workspace).expect("it applies");
+            assert!(!edit.replacements.is_empty() && !edit.kinds.is_empty());
+            let edited = edit.applied(workspace).expect("it applies");
+            let text = |path: PathBuf| match edited.iter().find(|(edited, _)| *edited == path) {
+                Some((_, text)) => text.clone(),
+                None => fs::read_to_string(path).expect("a text"),
+            };
+            patched::apply(&text(patched::patch()), &text(patched::published())).expect(&edit.name);
         }
+    }
+
+    #[test]
+    fn the_published_text_itself_is_a_wrong_driver() {
+        let workspace = Path::new(env!("CARGO_MANIFEST_DIR")).parent().expect("the oracle's folder");
+        let edit = Edit::read(&workspace.join("compare/mutants/published_without_the_patch.edit")).expect("an edit");
+        let [(file, text)] = &edit.applied(workspace).expect("it applies")[..] else { panic!("one file") };
+        let (_, include) = text.split_once("include!(\"").expect("the text is included");
+        let (included, _) = include.split_once('"').expect("a path");
+        let included = file.with_file_name(included).canonicalize().expect("the published text");
+        assert_eq!(included, patched::published().canonicalize().expect("the published text"));
     }
 }
