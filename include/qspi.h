@@ -35,7 +35,7 @@ extern "C" {
 /* How much log a call needs: two words for each access. A device is prompt where no RX word waits as the call starts, each look
  * at register 04 finds the reply that is due, and the first status read after a program or an erase is clean. On such a device
  * the calls make so many accesses:
- *     program, write_pages, reads                        by the macros; a chunk of 128 bytes of write_pages takes 164
+ *     program, write_pages, reads                        by the macros; a chunk of 128 bytes of write_pages takes 165
  *     erase_sector                                       36
  *     erase_sectors                                      36 for each sector, by the macro
  *     new                                                12; 36 where something is asked for; 60 where it has to be written
@@ -54,8 +54,8 @@ extern "C" {
  *
  * The macros give a uint64_t, constant where the arguments are, and use an argument more than once. They hold for lengths up to
  * 4294967296; no call accepts more. */
-#define QSPI_PROGRAM_ACCESSES(length) ((uint64_t)36 + (uint64_t)(length))
-#define QSPI_WRITE_PAGES_ACCESSES(length) ((uint64_t)(length) + ((uint64_t)(length) + 127) / 128 * 36)
+#define QSPI_PROGRAM_ACCESSES(length) ((uint64_t)37 + (uint64_t)(length))
+#define QSPI_WRITE_PAGES_ACCESSES(length) ((uint64_t)(length) + ((uint64_t)(length) + 127) / 128 * 37)
 #define QSPI_ERASE_SECTORS_ACCESSES(sectors) ((uint64_t)(sectors) * 36)
 #define QSPI_READ_ACCESSES(length, dummy_byte) ((dummy_byte) ? QSPI_READS_OF(length, 1) : QSPI_READS_OF(length, 0))
 #define QSPI_LOG_WORDS(accesses, busy, looks) (((uint64_t)(accesses) + (uint64_t)(busy) * 12 + (uint64_t)(looks) * 2) * 2)

@@ -117,13 +117,11 @@ impl Device {
         }
     }
 
-    /// All words are out before chip select rises, and then the command takes effect.
+    /// Where chip select rises the command takes effect as far as it is out; words that are not wait for another start.
     fn configure(&mut self, value: u32) {
         let (was_high, is_high) = (self.config & 0x400 != 0, value & 0x400 != 0);
         if is_high && !was_high {
-            while !self.released.is_empty() {
-                self.word_out();
-            }
+            self.waiting.splice(..0, self.released.drain(..));
             self.obey();
         }
         if is_high != was_high {

@@ -22,14 +22,18 @@
 /// Bytes of a chunk of [write_pages](crate::write_pages).
 const CHUNK: u64 = 128;
 
-/// Accesses of [program](crate::program): a write enable, the program command, the first status read.
+/// A write enable, the program command without data, the first status read. The command's reply takes two looks: 13 accesses
+/// and not 12.
+const PROGRAM: u64 = 12 + 13 + 12;
+
+/// Accesses of [program](crate::program). A data word with its reply, after two looks, is four: one a byte.
 pub const fn program_accesses(length: u64) -> u64 {
-    36 + length
+    PROGRAM + length
 }
 
 /// Accesses of [write_pages](crate::write_pages): each chunk is a program.
 pub const fn write_pages_accesses(length: u64) -> u64 {
-    length + 36 * length.div_ceil(CHUNK)
+    length + PROGRAM * length.div_ceil(CHUNK)
 }
 
 /// Accesses of [erase_sectors](crate::erase_sectors): for each sector a write enable, the erase command, the first status read.

@@ -1,4 +1,4 @@
-//! The published Rust's stored answers, replayed by this processor through the driver.
+//! The stored answers of the published Rust with U2's wait, replayed by this processor through the driver.
 use crate::say;
 use crate::uart::Uart;
 use replay::{Memory, replay};

@@ -192,8 +192,7 @@ impl<'l, B: Bus> QspiLowLevel<'l, B> {
     /// A transfer is over and another one comes.
     fn between(&mut self, over: Stage, patience: &mut Patience) {
         match (over, self.stage()) {
-            (Stage::Program, Stage::Poll) => patience.begin(true),
-            (Stage::Erase, Stage::Poll) => patience.begin(false),
+            (Stage::Program | Stage::Erase, Stage::Poll) => patience.begin(),
             (Stage::Poll, Stage::Poll) => self.wait(patience),
             _ => {}
         }

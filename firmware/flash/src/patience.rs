@@ -9,13 +9,12 @@ pub(crate) struct Patience {
     looks: u32,
     busy: u32,
     in_a_row: u32,
-    left_reply: bool,
     ended: bool,
 }
 
 impl Patience {
     pub fn new(budget: Budget) -> Self {
-        Patience { budget, looks: 0, busy: 0, in_a_row: 0, left_reply: false, ended: false }
+        Patience { budget, looks: 0, busy: 0, in_a_row: 0, ended: false }
     }
 
     /// Whether no further reply is waited for.
@@ -35,18 +34,14 @@ impl Patience {
             Phase::DrainStatus => waits,
             _ => false,
         };
-        if in_vain && self.left_reply && phase == Phase::DrainStatus {
-            self.left_reply = false;
-        } else if in_vain {
+        if in_vain {
             self.ended |= self.looks == self.budget.looks;
             self.looks = self.looks.saturating_add(1);
         }
     }
 
-    /// A program or an erase has begun. A program command takes one reply less than it sends words, so that the next transfer
-    /// finds one: it costs nothing.
-    pub fn begin(&mut self, leaves_reply: bool) {
-        self.left_reply |= leaves_reply;
+    /// A program or an erase has begun.
+    pub fn begin(&mut self) {
         self.in_a_row = 0;
     }
 

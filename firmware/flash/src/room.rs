@@ -52,8 +52,12 @@ calls! {
 
 /// A transfer of one word: four accesses to open it, the word, two to start it, a look, the reply, three to close it.
 const ONE_WORD: u64 = 12;
+/// The same where each reply takes two looks, as in a program and in a read. A further word and its reply are four accesses.
+const TWO_LOOKS: u64 = ONE_WORD + 1;
 /// Write enable, the command, the first status read.
 const ERASE: u64 = 3 * ONE_WORD;
+/// Write enable, the command without data, the first status read.
+const PROGRAM: u64 = 2 * ONE_WORD + TWO_LOOKS;
 /// Clear status and write disable, after the flash has reported an error.
 const FAILURE: u64 = 2 * ONE_WORD;
 /// Bytes of a chunk of `write_pages`.
@@ -90,24 +94,23 @@ impl Call {
     }
 }
 
-/// Write enable, the command with its data, the first status read. A data word and its reply are four accesses, so one a byte.
-/// The command takes no reply of its own: the status read drains it, which costs as much.
+/// A data word is four bytes and four accesses, so one a byte.
 const fn program(length: u64) -> u64 {
-    length.saturating_add(3 * ONE_WORD)
+    length.saturating_add(PROGRAM)
 }
 
 /// Each chunk is a program.
 const fn write_pages(length: u64) -> u64 {
-    length.saturating_add(3 * ONE_WORD * length.div_ceil(CHUNK))
+    length.saturating_add(PROGRAM * length.div_ceil(CHUNK))
 }
 
-/// A chunk is a transfer in which each reply takes two looks: 13 accesses, and four for each word behind the command.
+/// Each chunk is a transfer: the command, and as many words as the bytes to read fill.
 const fn read(length: u64, dummy_byte: bool) -> u64 {
     let dummy = dummy_byte as u64;
     let chunk = READ_CHUNK - dummy;
     let rest = length % chunk;
-    let last = if rest == 0 { 0 } else { 13 + 4 * (rest + dummy).div_ceil(4) };
-    (length / chunk).saturating_mul(13 + READ_CHUNK).saturating_add(last)
+    let last = if rest == 0 { 0 } else { TWO_LOOKS + 4 * (rest + dummy).div_ceil(4) };
+    (length / chunk).saturating_mul(TWO_LOOKS + READ_CHUNK).saturating_add(last)
 }
 
 /// The log words with which a call never ends by [LogFull](crate::Error::LogFull), whatever the bus answers: where it waits too
@@ -118,7 +121,7 @@ const fn read(length: u64, dummy_byte: bool) -> u64 {
 /// const BUDGET: Budget = Budget { looks: 4096, busy: 100 };
 /// const WORDS: usize = log_words(Call::WritePages(128), BUDGET);
 /// let mut log = [0u32; WORDS];
-/// # assert_eq!(log.len(), 2 * (164 + 24 + 12 * 100 + 2 * 4096));
+/// # assert_eq!(log.len(), 2 * (165 + 24 + 12 * 100 + 2 * 4096));
 /// ```
 pub const fn log_words(call: Call, budget: Budget) -> usize {
     let waiting = ONE_WORD * budget.busy as u64 + 2 * budget.looks as u64;

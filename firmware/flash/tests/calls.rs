@@ -95,6 +95,41 @@ fn the_length_of_a_log_is_what_a_prompt_device_takes() {
     }
 }
 
+/// The same of a program and a save, for every length that they take and lengths of a few chunks.
+#[test]
+fn the_length_of_a_log_is_what_a_program_and_a_save_of_any_length_take() {
+    for length in (0..=388).step_by(4) {
+        let mut log = vec![0; 4000];
+        let mut board = flash(Model::default(), &mut log, NOTHING_TO_SPARE);
+        assert_eq!(board.write_pages(SECTOR, &data(length)), Ok(length));
+        assert_eq!(board.low_level().log().len() + 48, log_words(Call::WritePages(length), NOTHING_TO_SPARE));
+        if length <= 240 {
+            assert_eq!(board.program(SECTOR + 0x200, &data(length)), Ok(()));
+            assert_eq!(board.low_level().log().len() + 48, log_words(Call::Program(length), NOTHING_TO_SPARE));
+        }
+    }
+}
+
+/// Document 02, U2: a reply for each word sent. So no word is left as chip select rises, however late the words go out.
+#[test]
+fn every_word_is_out_as_chip_select_rises() {
+    for looks in [0, 1, 5, 40] {
+        for length in (0..=240).step_by(4) {
+            let mut log = vec![0; 40_000];
+            let settings = Settings { looks, ..Settings::default() };
+            let mut board = flash(Model::new(settings), &mut log, Budget { looks: 10_000, busy: 0 });
+            assert_eq!(board.program(SECTOR, &data(length)), Ok(()));
+            let low_level = board.low_level();
+            let words = |register: u32| low_level.log().chunks_exact(2).filter(|access| access[0] == register).count();
+            // Write enable and status read send a word each, to other registers.
+            assert_eq!((words(0x1C), words(0x120)), (1 + length / 4, 3 + length / 4));
+            let model = &board.low_level().bus().bus;
+            let programmed: Vec<u8> = (0..length as u32).map(|at| model.byte(SECTOR + at)).collect();
+            assert_eq!((programmed, model.is_at_rest()), (data(length), true), "{length} bytes, {looks} looks");
+        }
+    }
+}
+
 #[test]
 fn ids_and_registers() {
     let mut log = vec![0; 400];
@@ -457,7 +492,7 @@ fn after_a_bus_that_panicked_nothing_goes_out() {
     let caught = std::panic::catch_unwind(std::panic::AssertUnwindSafe(|| board.write_pages(0, &data(256))));
     assert!(caught.is_err());
     // The first chunk was finished.
-    assert!(board.low_level().log().len() > 2 * 164 && board.low_level().needs_reset());
+    assert!(board.low_level().log().len() > 2 * 165 && board.low_level().needs_reset());
     board.low_level().bus().1 = 1000;
     let accesses = board.low_level().bus().0.accesses();
     for _ in 0..2 {
@@ -498,44 +533,4 @@ fn errors_say_what_and_by_which_number() {
         assert!(error.to_string().ends_with(&format!(" ({number})")));
     }
     assert_eq!((Error::ResetNeeded.number(), Error::FlashBusy.number()), (None, None));
-}
-
-/// What demand 3 says of a save, after each of its accesses: a log with room for so many ends the save there, as a cut does.
-#[test]
-fn a_save_that_is_cut_after_any_access_leaves_what_its_count_says() {
-    let old: Vec<u8> = (0..1024).map(|i| if i / 16 % 3 == 0 { 0xFF } else { (i * 29) as u8 }).collect();
-    let new = data(388);
-    let (place, mut accesses, mut in_doubt) = (0x100, 0, 0);
-    loop {
-        let mut board_log = vec![0; 4000];
-        let (mut bus, _) = flash(Model::new(slow()), &mut board_log, AMPLE).release().release();
-        bus.bus.load(SECTOR, &old);
-        let mut log = vec![0; 2 * accesses];
-        let mut board = Flash::over(QspiLowLevel::new(bus, &mut log, AMPLE));
-        let ended = board.write_pages(SECTOR + place as u32, &new);
-        let finished = ended.unwrap_or_else(|stopped| stopped.programmed);
-        let model = &board.low_level().bus().bus;
-        for (at, &old) in old.iter().enumerate() {
-            let addr = SECTOR + at as u32;
-            let saved = at.checked_sub(place).filter(|&saved| saved < new.len());
-            let programmed = saved.map_or(old, |saved| old & new[saved]);
-            let is_next = saved.is_some_and(|saved| (finished..finished + 128).contains(&saved));
-            if model.in_doubt().is_some_and(|doubt| doubt.contains(&addr)) {
-                assert!(is_next, "byte {at} is in doubt after {accesses} accesses");
-                in_doubt += 1;
-            } else if is_next {
-                // Not begun, or done and not seen to be so.
-                assert!([old, programmed].contains(&model.byte(addr)), "byte {at} after {accesses} accesses");
-            } else {
-                let expected = if saved.is_some_and(|saved| saved < finished) { programmed } else { old };
-                assert_eq!(model.byte(addr), expected, "byte {at} after {accesses} accesses");
-            }
-        }
-        if ended.is_ok() {
-            assert_eq!(finished, new.len());
-            break;
-        }
-        accesses += 1;
-    }
-    assert!(accesses > 600 && in_doubt > 10_000, "{accesses} accesses, {in_doubt} bytes in doubt");
 }

@@ -9,6 +9,7 @@ mod settings;
 use flash::Flash;
 pub use settings::{Failure, IDLE_CONFIG, Mode, Settings};
 use std::collections::VecDeque;
+use std::mem;
 use std::ops::Range;
 
 const CONFIG: u8 = 0x00;
@@ -156,13 +157,12 @@ impl Model {
         if self.rx.is_empty() { 0 } else { RX_WAITS }
     }
 
-    /// Every released word is out before chip select rises, and then the command takes effect.
+    /// Where chip select rises the command takes effect as far as it is out; words that are not wait for another start.
     fn configure(&mut self, value: u32) {
         let (was_high, is_high) = (self.config & CHIP_SELECT_HIGH != 0, value & CHIP_SELECT_HIGH != 0);
         if is_high && !was_high {
-            while !self.released.is_empty() {
-                self.word_out();
-            }
+            self.released.append(&mut self.waiting);
+            mem::swap(&mut self.released, &mut self.waiting);
             self.flash.take_effect(&self.settings);
         }
         if value & MANUAL_START != 0 {

@@ -134,6 +134,29 @@ fn words_wait_before_the_start_and_looks_find_nothing() {
     assert_eq!(model.read(0x20), 0x00FF_0000);
 }
 
+/// A page program whose data word is not out as chip select rises: it programs nothing, and the word goes ahead of the next one.
+#[test]
+fn a_word_that_is_not_out_as_chip_select_rises_waits_for_another_start() {
+    let mut model = Model::default();
+    command(&mut model, 0x06);
+    let config = model.read(0x00) & !HIGH;
+    model.write(0x00, config);
+    model.write(0x1C, 0x0001_0002);
+    model.write(0x1C, 0x1234_5678);
+    model.write(0x00, config | START);
+    reply(&mut model);
+    model.write(0x00, config | HIGH);
+    assert!(!model.is_at_rest() && model.in_doubt().is_none());
+    assert_eq!((bytes(&model), model.status()), ([0xFF; 4], 0x02));
+    model.write(0x00, config);
+    model.write(0x84, 0x05);
+    model.write(0x00, config | START);
+    // 12345678 goes out first, so that the status read is none.
+    assert_eq!([reply(&mut model), reply(&mut model)], [u32::MAX, 0xFFFF_0000]);
+    model.write(0x00, config | HIGH);
+    assert!(model.is_at_rest());
+}
+
 #[test]
 fn broken_modes() {
     let mut stuck = Model::new(Settings { mode: Mode::Stuck, waiting: vec![1], ..Settings::default() });
@@ -160,9 +183,9 @@ fn after_a_cut_nothing_has_an_effect() {
         model.write(0x1C, 0x0001_0002);
         model.write(0x1C, 0);
         model.write(0x00, config | START);
-        while model.accesses() < accesses - 1 {
-            model.read(0x04);
-        }
+        reply(&mut model);
+        reply(&mut model);
+        model.read(0x00);
         model.write(0x00, config | HIGH);
         model.write(0x00, config);
         assert_eq!((model.byte(0x100), model.accesses()), (byte, accesses + 1));

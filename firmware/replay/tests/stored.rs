@@ -1,10 +1,10 @@
-//! The stored answers of the published Rust, line by line, through the erased package.
+//! The stored answers of the published Rust with U2's wait, line by line, through the erased package.
 
 use replay::{Memory, replay};
 
 const STDIN: &[u8] = include_bytes!("../../../crates/oracle_cases/stdin");
 const STDOUT: &str = include_str!("../../../crates/oracle_cases/stdout");
-const ANSWERS: usize = 1343;
+const ANSWERS: usize = 1345;
 
 fn replayed(input: &[u8]) -> String {
     let mut lines = String::new();
@@ -27,7 +27,7 @@ fn there_are_all_answers_and_the_bad_line() {
     let lines = replayed(STDIN);
     let answers = lines.lines().filter(|line| !line.starts_with("BAD")).count();
     assert_eq!(answers, ANSWERS);
-    assert_eq!(lines.lines().last(), Some("BAD 1343"));
+    assert_eq!(lines.lines().last(), Some("BAD 1345"));
 }
 
 #[test]

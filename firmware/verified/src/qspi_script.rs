@@ -233,10 +233,11 @@ fn read_frame(chunk: u8, dummy: bool) -> Frame {
     data_frame(prefill(words), words * 4 + 4)
 }
 
-// As many replies as data words: the last one is left.
+// One reply more than data words: the reply to the command word. With it the last word is out before chip
+// select rises.
 fn program_frame(chunk: u8) -> Frame {
     let bytes = chunk as u32;
-    data_frame(prefill(bytes / 4), bytes)
+    data_frame(prefill(bytes / 4), bytes + 4)
 }
 
 // No word and no reply: only the count of accesses.

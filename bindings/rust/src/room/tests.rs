@@ -53,7 +53,7 @@ fn a_prompt_device_takes_what_is_said() {
     for sectors in SECTORS {
         takes(erase_sectors_accesses(sectors as u64), call!(erase_sectors(&list_of(sectors))));
     }
-    assert_eq!(write_pages_accesses(128), 164);
+    assert_eq!((program_accesses(0), write_pages_accesses(128)), (37, 165));
 }
 
 /// So many sectors, the higher first.
@@ -67,6 +67,18 @@ fn a_refused_save_takes_no_more() {
         let (answer, used, _) = Device::at_rest(0, 0).run(AMPLE, call!(write_pages(0x100, &vec![0xA5; length])));
         assert_eq!(answer, 4);
         assert!(used as u64 <= log_words(write_pages_accesses(length as u64), 0, 0));
+    }
+}
+
+/// Document 02, U2: a reply for each word sent. So no word is left as chip select rises, however late the words go out.
+#[test]
+fn every_word_is_out_as_chip_select_rises() {
+    for (gap, length) in [0, 1, 7, 40].into_iter().flat_map(|gap| [0, 4, 8, 12, 124, 128, 240].map(|n| (gap, n))) {
+        let data: Vec<u8> = (0..length).map(|i| (i * 7 + 3) as u8).collect();
+        let mut device = Device::at_rest(gap, 0);
+        assert_eq!(device.run(AMPLE, call!(program(0x100, &data))).0, 0);
+        let programmed: Vec<u8> = (0x100..).take(length).map(|at| device.byte(at)).collect();
+        assert_eq!((programmed, device.waiting.len()), (data, 0), "{length} bytes, a word in {gap} accesses");
     }
 }
 
