@@ -29,7 +29,7 @@ pub struct Came {
     pub left_out: bool,
 }
 
-// What a call's run is task for: whether a request stands behind it, the cut point, and what is printed.
+// What a call is run for: whether a request stands behind it, the cut point, and what is printed.
 pub struct Task {
     pub is_followed: bool,
     pub cut: usize,

@@ -39,6 +39,17 @@ fn program(model: &mut Model, word: u32) {
     transfer(model, 0x1C, &[0x0001_0002, word]);
 }
 
+/// A page program of a word at 000100 up to its start, after a write enable: config with chip select low.
+fn started_program(model: &mut Model, word: u32) -> u32 {
+    command(model, 0x06);
+    let config = model.read(0x00) & !HIGH;
+    model.write(0x00, config);
+    model.write(0x1C, 0x0001_0002);
+    model.write(0x1C, word);
+    model.write(0x00, config | START);
+    config
+}
+
 fn bytes(model: &Model) -> [u8; 4] {
     [0x100, 0x101, 0x102, 0x103].map(|addr| model.byte(addr))
 }
@@ -138,12 +149,7 @@ fn words_wait_before_the_start_and_looks_find_nothing() {
 #[test]
 fn a_word_that_is_not_out_as_chip_select_rises_waits_for_another_start() {
     let mut model = Model::default();
-    command(&mut model, 0x06);
-    let config = model.read(0x00) & !HIGH;
-    model.write(0x00, config);
-    model.write(0x1C, 0x0001_0002);
-    model.write(0x1C, 0x1234_5678);
-    model.write(0x00, config | START);
+    let config = started_program(&mut model, 0x1234_5678);
     reply(&mut model);
     model.write(0x00, config | HIGH);
     assert!(!model.is_at_rest() && model.in_doubt().is_none());
@@ -177,12 +183,7 @@ fn after_a_cut_nothing_has_an_effect() {
     for (cut, byte) in [(accesses - 1, 0xFF), (accesses, 0)] {
         let mut model = Model::default();
         model.cut_after(cut);
-        command(&mut model, 0x06);
-        let config = model.read(0x00) & !HIGH;
-        model.write(0x00, config);
-        model.write(0x1C, 0x0001_0002);
-        model.write(0x1C, 0);
-        model.write(0x00, config | START);
+        let config = started_program(&mut model, 0);
         reply(&mut model);
         reply(&mut model);
         model.read(0x00);
