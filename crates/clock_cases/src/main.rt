@@ -1,5 +1,6 @@
-// Runs the clock calculations on the cases of document 01, on both sides of each border of rules 6
-// to 9, on coinciding causes, and on every quotient of the ladder up to 300.
+// Runs the clock calculations on the cases of documents 01 and 02, on both sides of each border of
+// rules 6 to 9 and 31, on coinciding causes, and on every quotient up to 300. `tools/clock_cases` makes
+// the stored output.
 use libc::STDOUT_FILENO;
 use zynq7000::slcr::clocks::SrcSelIo;
 use zynq7000_hal::clocks::Clocks;
@@ -7,325 +8,15 @@ use zynq7000_hal::qspi::BaudRateConfig;
 use zynq7000_hal::qspi::ClockCalculation;
 use zynq7000_hal::qspi::ClockConfig;
 
-// Rows of source, I/O, ARM and DDR reference, cpu_1x, reference target, interface target.
-const CALCULATE: [u32; 210] = [
-    0,
-    1000000000,
-    1333333333,
-    1066666667,
-    111111111,
-    200000000,
-    5000000,
-    0,
-    1000000000,
-    1333333333,
-    1066666667,
-    111111111,
-    200000000,
-    2500000,
-    0,
-    1000000000,
-    1333333333,
-    1066666667,
-    111111111,
-    200000000,
-    100000000,
-    1,
-    1000000000,
-    1333333333,
-    1066666667,
-    111111111,
-    200000000,
-    100000000,
-    2,
-    1000000000,
-    1333333333,
-    1066666667,
-    111111111,
-    200000000,
-    100000000,
-    3,
-    1000000000,
-    1333333333,
-    1066666667,
-    111111111,
-    200000000,
-    100000000,
-    0,
-    1000000000,
-    1,
-    1,
-    1,
-    15873016,
-    15873016,
-    0,
-    1000000000,
-    1,
-    1,
-    1,
-    15873015,
-    15873015,
-    0,
-    1000000000,
-    1,
-    1,
-    1,
-    15625000,
-    15625000,
-    0,
-    1000000000,
-    1,
-    1,
-    1,
-    15625001,
-    15625001,
-    0,
-    63,
-    0,
-    0,
-    0,
-    1,
-    1,
-    0,
-    64,
-    0,
-    0,
-    0,
-    1,
-    1,
-    0,
-    1000000000,
-    1,
-    1,
-    199999999,
-    200000000,
-    100000000,
-    0,
-    1000000000,
-    1,
-    1,
-    200000000,
-    200000000,
-    100000000,
-    0,
-    1000000000,
-    1,
-    1,
-    200000001,
-    200000000,
-    100000000,
-    0,
-    1000,
-    1,
-    1,
-    333,
-    400,
-    333,
-    0,
-    1000,
-    1,
-    1,
-    334,
-    400,
-    333,
-    0,
-    1000000000,
-    1,
-    1,
-    1,
-    0,
-    1,
-    0,
-    0,
-    1,
-    1,
-    0,
-    1,
-    1,
-    0,
-    1000000000,
-    1,
-    1,
-    1,
-    200000000,
-    0,
-    0,
-    0,
-    1,
-    1,
-    1,
-    0,
-    0,
-    0,
-    0,
-    1,
-    1,
-    5,
-    7,
-    9,
-    0,
-    64,
-    1,
-    1,
-    9,
-    1,
-    0,
-    0,
-    1000000000,
-    1,
-    1,
-    200000001,
-    200000000,
-    0,
-    0,
-    0,
-    1,
-    1,
-    1,
-    1,
-    0,
-    0,
-    4294967295,
-    1,
-    1,
-    1,
-    0,
-    1,
-    0,
-    4294967295,
-    4294967295,
-    4294967295,
-    4294967295,
-    4294967295,
-    4294967295,
-    0,
-    4294967295,
-    4294967295,
-    4294967295,
-    68174084,
-    68174085,
-    1,
-    0,
-    4294967295,
-    4294967295,
-    4294967295,
-    68174085,
-    68174085,
-    1,
-    3,
-    1,
-    1,
-    4294967295,
-    0,
-    4294967295,
-    1,
-];
+const MAX: u32 = 4294967295;
 
-// Rows of source, I/O, ARM and DDR reference, cpu_1x, interface target.
-const LOOPBACK: [u32; 102] = [
-    0,
-    1000000000,
-    1,
-    1,
-    1,
-    7936508,
-    0,
-    1000000000,
-    1,
-    1,
-    1,
-    7936507,
-    0,
-    1000000000,
-    1333333333,
-    1066666667,
-    111111111,
-    100000000,
-    1,
-    1000000000,
-    1333333333,
-    1066666667,
-    111111111,
-    100000000,
-    2,
-    1000000000,
-    1333333333,
-    1066666667,
-    111111111,
-    100000000,
-    3,
-    1000000000,
-    1333333333,
-    1066666667,
-    111111111,
-    100000000,
-    0,
-    1000000000,
-    1,
-    1,
-    1,
-    2147483647,
-    0,
-    1000000000,
-    1,
-    1,
-    1,
-    2147483648,
-    0,
-    1000000000,
-    1,
-    1,
-    1,
-    4294967295,
-    0,
-    1000000000,
-    1,
-    1,
-    1,
-    0,
-    0,
-    0,
-    1,
-    1,
-    1,
-    1,
-    0,
-    0,
-    1,
-    1,
-    1,
-    0,
-    0,
-    0,
-    1,
-    1,
-    1,
-    2147483648,
-    0,
-    126,
-    1,
-    1,
-    4294967295,
-    1,
-    0,
-    127,
-    1,
-    1,
-    4294967295,
-    1,
-    0,
-    4294967295,
-    1,
-    1,
-    1,
-    34087043,
-    0,
-    4294967295,
-    1,
-    1,
-    1,
-    34087042,
-];
+// Document 01's clocks.
+const STATION: Clocks = Clocks {
+    io_ref_clk: 1000000000,
+    arm_ref_clk: 1333333333,
+    ddr_ref_clk: 1066666667,
+    cpu_1x_clk: 111111111,
+};
 
 fn number(n: u32) {
     io::write_all(STDOUT_FILENO, b" ");
@@ -344,7 +35,7 @@ fn source(code: u32) -> SrcSelIo {
 fn show_config(config: ClockConfig) {
     let src_sel = config.src_sel;
     let baud_rate_config = config.baud_rate_config;
-    io::write_all(STDOUT_FILENO, b" -> source");
+    io::write_all(STDOUT_FILENO, b" source");
     number(src_sel.raw_value());
     io::write_all(STDOUT_FILENO, b" divisor");
     number(config.ref_clk_div as u32);
@@ -357,17 +48,13 @@ fn show_config(config: ClockConfig) {
         }
     }
     number(baud_rate_config.baud_rate_divisor().divisor());
-    io::write_all(STDOUT_FILENO, b"\n");
 }
 
 fn show(answer: ClockCalculation) {
+    io::write_all(STDOUT_FILENO, b" ->");
     match answer {
         ClockCalculation::Config(config) => show_config(config),
-        ClockCalculation::Refused(error) => {
-            io::write_all(STDOUT_FILENO, b" ->");
-            number(error.number() as u32);
-            io::write_all(STDOUT_FILENO, b"\n");
-        }
+        ClockCalculation::Refused(error) => number(error.number() as u32),
     }
 }
 
@@ -385,82 +72,177 @@ fn calculate(code: u32, clocks: Clocks, reference: u32, interface: u32) {
     number(reference);
     number(interface);
     show(ClockConfig::calculate(source(code), clocks, reference, interface));
+    io::write_all(STDOUT_FILENO, b"\n");
 }
 
-fn calculate_with_loopback(code: u32, clocks: Clocks, interface: u32) {
+fn loopback(code: u32, clocks: Clocks, interface: u32) {
     io::write_all(STDOUT_FILENO, b"loopback");
     show_clocks(code, clocks);
     number(interface);
     show(ClockConfig::calculate_with_loopback(source(code), clocks, interface));
+    io::write_all(STDOUT_FILENO, b"\n");
 }
 
-fn clocks(io: u32, arm: u32, ddr: u32, cpu: u32) -> Clocks {
+// Clocks of which the I/O reference is asked for; the other two are 1, so that a wrong one shows.
+fn clocks(io: u32, cpu: u32) -> Clocks {
     Clocks {
         io_ref_clk: io,
-        arm_ref_clk: arm,
-        ddr_ref_clk: ddr,
+        arm_ref_clk: 1,
+        ddr_ref_clk: 1,
         cpu_1x_clk: cpu,
     }
 }
 
-// The row that begins at k, if it is whole.
-fn calculate_row(t: &[u32], k: usize) {
-    if t.len() < 7 {
-        return;
-    }
-    if t.len() - 7 < k {
-        return;
-    }
-    let c = clocks(t[k + 1], t[k + 2], t[k + 3], t[k + 4]);
-    calculate(t[k], c, t[k + 5], t[k + 6]);
-}
-
-fn calculate_rows(t: &[u32]) {
-    let mut k = 0;
-    while k < t.len() {
-        calculate_row(t, k);
-        k += 7;
+fn references(io: u32, arm: u32, ddr: u32) -> Clocks {
+    Clocks {
+        io_ref_clk: io,
+        arm_ref_clk: arm,
+        ddr_ref_clk: ddr,
+        cpu_1x_clk: 0,
     }
 }
 
-fn loopback_row(t: &[u32], k: usize) {
-    if t.len() < 6 {
-        return;
-    }
-    if t.len() - 6 < k {
-        return;
-    }
-    let c = clocks(t[k + 1], t[k + 2], t[k + 3], t[k + 4]);
-    calculate_with_loopback(t[k], c, t[k + 5]);
+fn station() {
+    calculate(0, STATION, 200000000, 5000000);
+    calculate(0, STATION, 200000000, 2500000);
+    calculate(0, STATION, 200000000, 100000000);
+    calculate(1, STATION, 200000000, 100000000);
+    calculate(2, STATION, 200000000, 100000000);
+    calculate(3, STATION, 200000000, 100000000);
+    calculate(1, references(MAX, 1, 1), MAX, 16777216);
+    calculate(2, references(1, MAX, 1), MAX, 16777216);
+    calculate(3, references(1, 1, MAX), MAX, 16777216);
 }
 
-fn loopback_rows(t: &[u32]) {
-    let mut k = 0;
-    while k < t.len() {
-        loopback_row(t, k);
-        k += 6;
-    }
+// The reference divisor up to 63, and above.
+fn rule_6() {
+    calculate(0, clocks(1000000000, 1), 15873016, 15873016);
+    calculate(0, clocks(1000000000, 1), 15873015, 15873015);
+    calculate(0, clocks(1000000000, 1), 15625000, 15625000);
+    calculate(0, clocks(1000000000, 1), 15625001, 15625001);
+    calculate(0, clocks(63, 0), 1, 1);
+    calculate(0, clocks(64, 0), 1, 1);
+    calculate(0, clocks(256, 0), 1, 1);
+    calculate(0, clocks(65536, 0), 1, 1);
+    calculate(0, clocks(MAX, 0), 1, 1);
+    calculate(0, clocks(MAX, 0), 68174085, 68174085);
+    calculate(0, clocks(MAX, 0), 68174084, 68174084);
 }
 
-// A reference of q hertz that is not divided, and a target of 1 hertz: quotient q.
-fn ladder_row(q: u32) {
+// cpu_1x around the divided reference, as rounded down.
+fn rule_7() {
+    calculate(0, clocks(1000000000, 199999999), 200000000, 100000000);
+    calculate(0, clocks(1000000000, 200000000), 200000000, 100000000);
+    calculate(0, clocks(1000000000, 200000001), 200000000, 100000000);
+    calculate(0, clocks(1000, 333), 400, 333);
+    calculate(0, clocks(1000, 334), 400, 333);
+    calculate(0, clocks(MAX, MAX), MAX, MAX);
+    calculate(0, clocks(MAX, 68174084), 68174085, 68174085);
+    calculate(0, clocks(MAX, 68174085), 68174085, 68174085);
+}
+
+// A zero divisor is reached.
+fn rule_8() {
+    calculate(0, clocks(1000000000, 1), 0, 1);
+    calculate(0, clocks(0, 0), 1, 1);
+    calculate(0, clocks(1000000000, 1), 200000000, 0);
+}
+
+// The quotient up to 256, and above.
+fn rule_31() {
+    calculate(0, STATION, 200000000, 781250);
+    calculate(0, STATION, 200000000, 781249);
+    calculate(0, clocks(MAX, 0), MAX, 16777216);
+    calculate(0, clocks(MAX, 0), MAX, 16777215);
+    calculate(0, clocks(MAX, 0), MAX, 1);
+    calculate(0, clocks(65536, 0), 65536, 1);
+    calculate(0, clocks(256000, 0), 256000, 1000);
+    calculate(0, clocks(256001, 0), 256001, 1000);
+}
+
+// The quotient of a divided reference, as rounded down.
+fn rounded_down() {
+    calculate(0, clocks(13, 0), 5, 1);
+    calculate(0, clocks(769, 0), 300, 1);
+    calculate(0, clocks(771, 0), 300, 1);
+    calculate(0, clocks(1000, 0), 400, 2);
+    calculate(0, clocks(1000, 0), 400, 1);
+}
+
+// Of two causes or more the one that `calculate` tests first: 8, 6, 8, 7, 8, 31.
+fn coinciding() {
+    calculate(0, clocks(0, 1), 0, 0);
+    calculate(0, clocks(MAX, 1), 0, 1);
+    calculate(0, clocks(19200, 301), 0, 1);
+    calculate(0, clocks(19200, 0), 300, 1);
+    calculate(0, clocks(19200, 301), 300, 1);
+    calculate(0, clocks(64, 9), 1, 0);
+    calculate(0, clocks(0, 5), 7, 9);
+    calculate(0, clocks(0, 1), 1, 0);
+    calculate(0, clocks(1000000000, 200000001), 200000000, 0);
+    calculate(0, clocks(257, 258), 257, 1);
+    calculate(0, clocks(257, 257), 257, 1);
+    calculate(0, clocks(MAX, MAX), 2147483648, 1);
+    calculate(0, clocks(MAX, 2147483648), 2147483648, 1);
+    calculate(0, clocks(MAX, 2147483647), 2147483648, 1);
+}
+
+fn loopbacks() {
+    loopback(0, clocks(1000000000, 1), 7936508);
+    loopback(0, clocks(1000000000, 1), 7936507);
+    loopback(0, STATION, 100000000);
+    loopback(1, STATION, 100000000);
+    loopback(2, STATION, 100000000);
+    loopback(3, STATION, 100000000);
+    loopback(0, clocks(1000000000, 1), 2147483647);
+    loopback(0, clocks(1000000000, 1), 2147483648);
+    loopback(0, clocks(1000000000, 1), MAX);
+    loopback(0, clocks(1000000000, 1), 0);
+    loopback(0, clocks(0, 1), 1);
+    loopback(0, clocks(0, 1), 0);
+    loopback(0, clocks(0, 1), 2147483648);
+    loopback(0, clocks(126, MAX), 1);
+    loopback(0, clocks(127, MAX), 1);
+    loopback(0, clocks(512, 1), 1);
+    loopback(0, clocks(131072, 1), 1);
+    loopback(0, clocks(MAX, 1), 1);
+    loopback(0, clocks(MAX, 1), 34087043);
+    loopback(0, clocks(MAX, 1), 34087042);
+}
+
+// A reference clock that is not divided.
+fn undivided(reference: u32, interface: u32) {
+    show(ClockConfig::calculate(SrcSelIo::IoPll, clocks(reference, 0), reference, interface));
+}
+
+// The quotient after `below` by a target of 1 hertz, and by one of 1,000 from the smallest reference to
+// the largest.
+fn quotient(below: u16) {
+    let q = below as u32 + 1;
     io::write_all(STDOUT_FILENO, b"quotient");
     number(q);
-    show(ClockConfig::calculate(SrcSelIo::IoPll, clocks(q, 0, 0, 0), q, 1));
+    undivided(q, 1);
+    undivided(below as u32 * 1000 + 1, 1000);
+    undivided(q * 1000, 1000);
+    io::write_all(STDOUT_FILENO, b"\n");
 }
 
-fn ladder() {
-    let mut q: u32 = 1;
-    while q <= 300 {
-        ladder_row(q);
-        q += 1;
+fn quotients() {
+    let mut below: u16 = 0;
+    while below < 300 {
+        quotient(below);
+        below += 1;
     }
 }
 
 fn main() {
-    let calculations = CALCULATE;
-    calculate_rows(&calculations);
-    let loopbacks = LOOPBACK;
-    loopback_rows(&loopbacks);
-    ladder();
+    station();
+    rule_6();
+    rule_7();
+    rule_8();
+    rule_31();
+    rounded_down();
+    coinciding();
+    loopbacks();
+    quotients();
 }

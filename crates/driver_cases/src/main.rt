@@ -32,6 +32,8 @@ fn main() {
     clock::inputs();
     clock::interface(5000000);
     clock::interface(2500000);
+    clock::interface(781250);
+    clock::interface(781249);
     clock::loopback(7936508);
     clock::loopback(7936507);
     case(call::IO_MODE_ONE, 0, 0);

@@ -63,8 +63,8 @@ pub fn answer(number: u32) {
         RefClockSmallerThanCpu1xClock|ZeroClock|TargetTooFast|AddressSpan|UnknownCode|FieldTooWide|BadLog|\
         |||||||\
         EraseErrorBitSet|ProgrammingErrorBitSet|RepliesEnded|LogFull|LentLengthChanged|\
-        ||||||\
-        RepeatedSector|ListTooLong|\
+        |||||\
+        BaudDivOutOfRange|RepeatedSector|ListTooLong|\
     ";
     decimal(b"", number as usize);
     text(b" ");

@@ -61,8 +61,8 @@ starred =
     ∷ case (write-pages (any 256) 0x40) (gives-with 5 128)
     -- "read of 1 byte at 000102 sends 02010003 and one zero word"
     ∷ case (read 1 0x000102) (sends (0x02010003 ∷ 0 ∷ []))
-    -- "interface target 5,000,000 gives quotient 40 and divisor 256 .. Loopback 7,936,508 gives 63"
-    ∷ interface 5_000_000 40 256
+    -- "interface target 5,000,000 gives quotient 40 and divisor 256 .. Loopback 7,936,508 gives 63"; document 02, U3: "become 64 and 128"
+    ∷ interface 5_000_000 40 64
     ∷ loopback 7_936_508 63
     -- "io mode, one flash: A0 gets 01A002EB"
     ∷ case (io-mode false) (gets 0xA0 0x01A002EB)

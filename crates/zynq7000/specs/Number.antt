@@ -1,5 +1,5 @@
 -- The numbers of the answers, in one place: document 01's tables "What the input can bring on" and "What the state can bring on", and what the requests of document 02 add
--- (U1: "new 32 RepeatedSector .., new 33 ListTooLong").
+-- (U1: "new 32 RepeatedSector .., new 33 ListTooLong"; U3: "new 31 BaudDivOutOfRange").
 use Prim.Native.Nat.{ℕ}
 use mathlib.Core.List.{List, []}
 
@@ -9,7 +9,7 @@ pub data Refusal : Type 0 where
   RefDivOutOfRange RefClockSmallerThanCpu1xClock ZeroClock TargetTooFast : Refusal
   AddressSpan UnknownCode FieldTooWide BadLog : Refusal
   EraseErrorBitSet ProgrammingErrorBitSet RepliesEnded LogFull LentLengthChanged : Refusal
-  RepeatedSector ListTooLong : Refusal
+  BaudDivOutOfRange RepeatedSector ListTooLong : Refusal
 
 abbrev pub number : Refusal → ℕ
 number OutOfRange = 1
@@ -30,6 +30,7 @@ number ProgrammingErrorBitSet = 22
 number RepliesEnded = 23
 number LogFull = 24
 number LentLengthChanged = 25
+number BaudDivOutOfRange = 31
 number RepeatedSector = 32
 number ListTooLong = 33
 

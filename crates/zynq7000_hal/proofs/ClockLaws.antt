@@ -1,17 +1,17 @@
--- Rounding up, the rungs of the ladder, and what the calculations answer test by test. Assumes nothing.
+-- Rounding up, and what the calculations answer test by test. Assumes nothing.
 use Prim.Native.Nat.{ℕ, _+_, _-_, _*_, _/_, _%_, _<_, _≤_}
 use mathlib.Core.Path.{_≡_, ap, _∙_}
 use native.Mathlib.Omega.{arith}
-use native.Mathlib.Nat.{add-mul, one-mul, div-add-mod', mod-lt, div-mul-le-self, lt-div-mul-add, le-div-iff-mul-le, le-mul-of-pos-right}
+use native.Mathlib.Nat.{add-mul, one-mul, div-add-mod', mod-lt, div-mul-le-self, lt-div-mul-add, le-div-iff-mul-le, div-lt-iff-lt-mul, le-mul-of-pos-right}
 use lib.Arith.{digits-div}
 use mathlib.Core.List.{[], _∷_}
-use borrow.Author.Tests.{le-leb, lt-leb, le-ltb, lt-ltb, eq-eqb, ne-eqb}
+use borrow.Author.Tests.{le-ltb, lt-ltb, eq-eqb, ne-eqb}
 use Rattle.zynq7000.specs.Number.{accepted, refused}
-use Rattle.zynq7000.specs.Number.{RefDivOutOfRange, RefClockSmallerThanCpu1xClock, ZeroClock, TargetTooFast}
+use Rattle.zynq7000.specs.Number.{RefDivOutOfRange, RefClockSmallerThanCpu1xClock, ZeroClock, TargetTooFast, BaudDivOutOfRange}
 use Rattle.zynq7000.specs.Slcr.{sourceCode}
 use Rattle.zynq7000.specs.declared.slcr.clocks.SrcSelIo.{SrcSelIo}
 use Rattle.zynq7000_hal.specs.declared.clocks.Clocks.{Clocks}
-use Rattle.zynq7000_hal.specs.Clocks.{roundedUp, ladder, sourceClock, dividedClock, quotient, baudAnswer, calculateAnswer, loopbackAnswer}
+use Rattle.zynq7000_hal.specs.Clocks.{roundedUp, smallestPowerNotBelow, sourceClock, dividedClock, quotient, baudAnswer, calculateAnswer, loopbackAnswer}
 
 -- ---- rounding up: the quotient, and one more where something is left
 
@@ -34,46 +34,18 @@ round-reaches n d h = omega (arith, lt-div-mul-add {a = n + (d - 1)} h)
 pub round-least : (n d : ℕ) → 0 < d → roundedUp n d * d < n + d
 round-least n d h = omega (arith, div-mul-le-self (n + (d - 1)) d)
 
+-- and no more than any other that does
+pub round-within : (n d k : ℕ) → 0 < d → n ≤ k * d → roundedUp n d ≤ k
+round-within n d k h l =
+    let b : roundedUp n d < k + 1 = div-lt-iff-lt-mul h .1 (omega (arith, add-mul k 1 d, one-mul d)) in
+    omega arith
+
 pub round-positive : (n d : ℕ) → 0 < d → 0 < n → 0 < roundedUp n d
 round-positive n d h p = le-div-iff-mul-le h .1 (omega (arith, one-mul d))
 
 -- where something is left the quotient has room for one more
 pub round-room : (n d : ℕ) → 0 < d → (n % d ≡ 0 → ⊥) → n / d < n
 round-room n d h e = omega (arith, div-add-mod' n d, e, le-mul-of-pos-right (n / d) h)
-
--- ---- the rungs, as 01 lists them
-
-pub rung-2 : (q : ℕ) → q ≤ 2 → ladder q ≡ 2
-rung-2 q h = simp (le-leb q 2 h)
-
-pub rung-4 : (q : ℕ) → 2 < q → q ≤ 4 → ladder q ≡ 4
-rung-4 q l h = simp (lt-leb q 2 l, le-leb q 4 h)
-
-pub rung-8 : (q : ℕ) → 4 < q → q ≤ 8 → ladder q ≡ 8
-rung-8 q l h = simp (lt-leb q 2 (omega arith), lt-leb q 4 l, le-leb q 8 h)
-
-pub rung-16 : (q : ℕ) → 8 < q → q ≤ 16 → ladder q ≡ 16
-rung-16 q l h = simp (lt-leb q 2 (omega arith), lt-leb q 4 (omega arith), lt-leb q 8 l, le-leb q 16 h)
-
-pub rung-32 : (q : ℕ) → 16 < q → q ≤ 32 → ladder q ≡ 32
-rung-32 q l h = simp (lt-leb q 2 (omega arith), lt-leb q 4 (omega arith), lt-leb q 8 (omega arith), lt-leb q 16 l, le-leb q 32 h)
-
-pub hole : (q : ℕ) → 32 < q → q ≤ 64 → ladder q ≡ 256
-hole q l h =
-    simp (lt-leb q 2 (omega arith), lt-leb q 4 (omega arith), lt-leb q 8 (omega arith), lt-leb q 16 (omega arith), lt-leb q 32 l, le-leb q 64 h)
-
--- the rungs above the hole, one too low
-pub rung-64 : (q : ℕ) → 64 < q → q ≤ 128 → ladder q ≡ 64
-rung-64 q l h =
-    simp (lt-leb q 2 (omega arith), lt-leb q 4 (omega arith), lt-leb q 8 (omega arith), lt-leb q 16 (omega arith), lt-leb q 32 (omega arith), lt-leb q 64 l, le-leb q 128 h)
-
-pub rung-128 : (q : ℕ) → 128 < q → q ≤ 256 → ladder q ≡ 128
-rung-128 q l h =
-    simp (lt-leb q 2 (omega arith), lt-leb q 4 (omega arith), lt-leb q 8 (omega arith), lt-leb q 16 (omega arith), lt-leb q 32 (omega arith), lt-leb q 64 (omega arith), lt-leb q 128 l, le-leb q 256 h)
-
-pub rung-256 : (q : ℕ) → 256 < q → ladder q ≡ 256
-rung-256 q l =
-    simp (lt-leb q 2 (omega arith), lt-leb q 4 (omega arith), lt-leb q 8 (omega arith), lt-leb q 16 (omega arith), lt-leb q 32 (omega arith), lt-leb q 64 (omega arith), lt-leb q 128 (omega arith), lt-leb q 256 l)
 
 -- ---- what the calculations answer, test by test in 01's order
 
@@ -115,17 +87,35 @@ module _ (s : SrcSelIo) (c : Clocks) (t i : ℕ) where
         eq-eqb i 0 e,
       )
 
-  pub calculated : (t ≡ 0 → ⊥) → roundedUp (sourceClock s c) t ≤ 63 → (sourceClock s c ≡ 0 → ⊥)
+  pub quotient-too-large : (t ≡ 0 → ⊥) → roundedUp (sourceClock s c) t ≤ 63 → (sourceClock s c ≡ 0 → ⊥)
       → c .«cpu_1x_clk» ≤ dividedClock (sourceClock s c) t
       → (i ≡ 0 → ⊥)
-      → calculateAnswer s c t i ≡ accepted (sourceCode s ∷ roundedUp (sourceClock s c) t ∷ 0 ∷ ladder (quotient (sourceClock s c) t i) ∷ [])
-  calculated h l z b e =
+      → 256 < quotient (sourceClock s c) t i
+      → calculateAnswer s c t i ≡ refused BaudDivOutOfRange
+  quotient-too-large h l z b e q =
       simp (
         ne-eqb t 0 h,
         le-ltb 63 (roundedUp (sourceClock s c) t) l,
         ne-eqb (sourceClock s c) 0 z,
         le-ltb (dividedClock (sourceClock s c) t) (c .«cpu_1x_clk») b,
         ne-eqb i 0 e,
+        lt-ltb 256 (quotient (sourceClock s c) t i) q,
+      )
+
+  pub calculated : (t ≡ 0 → ⊥) → roundedUp (sourceClock s c) t ≤ 63 → (sourceClock s c ≡ 0 → ⊥)
+      → c .«cpu_1x_clk» ≤ dividedClock (sourceClock s c) t
+      → (i ≡ 0 → ⊥)
+      → quotient (sourceClock s c) t i ≤ 256
+      → calculateAnswer s c t i
+      ≡ accepted (sourceCode s ∷ roundedUp (sourceClock s c) t ∷ 0 ∷ smallestPowerNotBelow (quotient (sourceClock s c) t i) ∷ [])
+  calculated h l z b e q =
+      simp (
+        ne-eqb t 0 h,
+        le-ltb 63 (roundedUp (sourceClock s c) t) l,
+        ne-eqb (sourceClock s c) 0 z,
+        le-ltb (dividedClock (sourceClock s c) t) (c .«cpu_1x_clk») b,
+        ne-eqb i 0 e,
+        le-ltb 256 (quotient (sourceClock s c) t i) q,
       )
 
   pub too-fast : 2147483647 < t → loopbackAnswer s c t ≡ refused TargetTooFast

@@ -1,5 +1,8 @@
 pub mod ClockAnswers
 pub mod ClockLaws
 pub mod InitializeLaws
+pub mod LadderExamples
+pub mod LadderLaws
+pub mod OldLadder
 pub mod PresetWords
 pub mod WordLaws

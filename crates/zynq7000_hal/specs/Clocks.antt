@@ -1,11 +1,12 @@
 -- The clock calculation: document 01, "What the input can bring on", rules 6 to 9 in the order that 01 gives for `calculate` and for
--- loopback, and the ladder of 01's "Porting mistakes".
-use Prim.Native.Nat.{ℕ, _+_, _-_, _*_, _/_}
+-- loopback; the baud rate divisor and 31 are document 02's, U3.
+use Prim.Native.Nat.{ℕ, _+_, _-_, _*_, _/_, _^_, _<_, _≤_}
+use mathlib.Core.Path.{_≡_}
 use mathlib.Core.Bool.{cond}
 use mathlib.Core.List.{List, [], _∷_}
 use lib.Dec.{eqb, leb, ltb}
 use Rattle.zynq7000.specs.Number.{Answer, Refusal, accepted, refused}
-use Rattle.zynq7000.specs.Number.{RefDivOutOfRange, RefClockSmallerThanCpu1xClock, ZeroClock, TargetTooFast}
+use Rattle.zynq7000.specs.Number.{RefDivOutOfRange, RefClockSmallerThanCpu1xClock, ZeroClock, TargetTooFast, BaudDivOutOfRange}
 use Rattle.zynq7000.specs.Qspi.{divisorOf}
 use Rattle.zynq7000.specs.Slcr.{sourceCode}
 use Rattle.zynq7000.specs.declared.qspi.BaudRateDivisor.{BaudRateDivisor}
@@ -19,6 +20,7 @@ use Rattle.zynq7000_hal.specs.declared.qspi.ClockCalculationError.{Clock
 use Rattle.zynq7000_hal.specs.declared.qspi.ClockCalculationError.the-variants as error
 use Rattle.zynq7000_hal.specs.declared.qspi.ClockCalculation.{ClockCalculation}
 use Rattle.zynq7000_hal.specs.declared.qspi.ClockCalculation.the-variants.{Config, Refused}
+use Rattle.zynq7000_hal.specs.declared.qspi.ClockConfig.{ClockConfig}
 
 -- ---- answers
 
@@ -27,6 +29,7 @@ refusalOf error.RefClockSmallerThanCpu1xClock = RefClockSmallerThanCpu1xClock
 refusalOf error.RefDivOutOfRange = RefDivOutOfRange
 refusalOf error.ZeroClock = ZeroClock
 refusalOf error.TargetTooFast = TargetTooFast
+refusalOf error.BaudDivOutOfRange = BaudDivOutOfRange
 
 -- the baud rate divisor: with loopback it is 2, as in the Rust
 abbrev pub baudOf : BaudRateConfig → BaudRateDivisor
@@ -58,30 +61,62 @@ roundedUp n d = (n + (d - 1)) / d
 abbrev pub dividedClock : ℕ → ℕ → ℕ
 dividedClock clock target = clock / roundedUp clock target
 
--- 01 speaks of it as the quotient: what the ladder is entered with
+-- 01 speaks of it as the quotient: what the baud rate divisor is sought for
 abbrev pub quotient : ℕ → ℕ → ℕ → ℕ
 quotient clock target interface = roundedUp (dividedClock clock target) interface
 
--- the divisor for a quotient. 33 to 64 go to 256, 65 to 128 to 64, 129 to 256 to 128: the Rust's hole, copied
-abbrev pub ladder : ℕ → ℕ
-ladder q =
-    cond (leb q 2) 2
-    (cond (leb q 4) 4
-    (cond (leb q 8) 8
-    (cond (leb q 16) 16
-    (cond (leb q 32) 32
-    (cond (leb q 64) 256
-    (cond (leb q 128) 64
-    (cond (leb q 256) 128 256)))))))
+-- ---- U3: "the divisor shall be the smallest power of two from 2 to 256 that is not below the quotient"
 
--- what follows once the reference is divided: 7, 8 (interface target), or the ladder's divisor
+-- the powers of two from 2 to 256, rising
+abbrev pub powers : List ℕ
+powers = 2 ∷ 4 ∷ 8 ∷ 16 ∷ 32 ∷ 64 ∷ 128 ∷ 256 ∷ []
+
+-- of rising numbers the smallest that is not below q; 0 where each is below it
+abbrev pub smallestNotBelow : ℕ → List ℕ → ℕ
+smallestNotBelow q [] = 0
+smallestNotBelow q (p ∷ ps) = cond (leb q p) p (smallestNotBelow q ps)
+
+abbrev pub smallestPowerNotBelow : ℕ → ℕ
+smallestPowerNotBelow q = smallestNotBelow q powers
+
+-- the same words without a search: up to 256 `smallestPowerNotBelow` is it (`smallest-power` in proofs/LadderLaws.antt), and nothing else is
+-- (`only-smallest`)
+pub record PowerFrom2To256 (p : ℕ) : Type 0 where
+  pub exponent : ℕ
+  pub power : p ≡ 2 ^ exponent
+  pub from-2 : 2 ≤ p
+  pub to-256 : p ≤ 256
+
+pub record SmallestPowerNotBelow (q d : ℕ) : Type 0 where
+  pub power : PowerFrom2To256 d
+  pub not-below : q ≤ d
+  pub smallest : (p : ℕ) → PowerFrom2To256 p → q ≤ p → d ≤ p
+
+-- a configuration's reference clock, as rounded down, and its baud rate divisor
+abbrev pub clockOf : ClockConfig → Clocks → ℕ
+clockOf k c = sourceClock (k .«src_sel») c / k .«ref_clk_div»
+
+abbrev pub divisorIn : ClockConfig → ℕ
+divisorIn k = divisorOf (baudOf (k .«baud_rate_config»))
+
+-- what the divisor d does for a reference clock of r, as rounded down, and an interface target: the interface clock, r over d, is not
+-- above the target, and above half of it unless d is 2
+pub record OnTarget (r target d : ℕ) : Type 0 where
+  pub not-above : r ≤ target * d
+  pub above-half : (d ≡ 2 → ⊥) → target * d < 2 * r
+
+-- ---- answers in 01's order
+
+-- what follows once the reference is divided: 7, 8 (interface target), 31 "for quotients above 256, after 7 and after 8 for the interface
+-- target", or the divisor
 abbrev pub baudAnswer : SrcSelIo → ℕ → ℕ → ℕ → ℕ → Answer
 baudAnswer s divisor divided cpu interface =
     cond (ltb divided cpu) (refused RefClockSmallerThanCpu1xClock)
     (cond (eqb interface 0) (refused ZeroClock)
-    (accepted (sourceCode s ∷ divisor ∷ 0 ∷ ladder (roundedUp divided interface) ∷ [])))
+    (cond (ltb 256 (roundedUp divided interface)) (refused BaudDivOutOfRange)
+    (accepted (sourceCode s ∷ divisor ∷ 0 ∷ smallestPowerNotBelow (roundedUp divided interface) ∷ []))))
 
--- `calculate`: 8 (reference target), 6, 8 (reference clock 0), 7, 8 (interface target)
+-- `calculate`: 8 (reference target), 6, 8 (reference clock 0), 7, 8 (interface target), 31
 abbrev pub calculateAnswer : SrcSelIo → Clocks → ℕ → ℕ → Answer
 calculateAnswer s c target interface =
     cond (eqb target 0) (refused ZeroClock)

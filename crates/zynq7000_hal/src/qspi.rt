@@ -1,12 +1,12 @@
 // The QSPI controller, after the Rust module `zynq7000-hal/src/qspi/mod.rs`: the clock calculation,
 // the linear mode presets and the words that `initialize` and `enable_io_mode` write.
 ghost use mathlib.Core.Path.{_≡_};
-ghost use Prim.Native.Nat.{_<_};
+ghost use Prim.Native.Nat.{_<_, _≤_};
 ghost use Rattle.zynq7000.specs.Number.{number};
 ghost use Rattle.zynq7000.specs.Qspi.{divisorOf, configWord, linearWord};
 ghost use Rattle.zynq7000.specs.Slcr.{sourceCode, clockControlWord};
 ghost use Rattle.zynq7000_hal.specs.Fifo.{prefilled};
-ghost use Rattle.zynq7000_hal.specs.Clocks.{roundedUp, ladder, refusalOf, answerOf, baudAnswer, calculateAnswer, loopbackAnswer, baudOf};
+ghost use Rattle.zynq7000_hal.specs.Clocks.{roundedUp, smallestPowerNotBelow, refusalOf, answerOf, baudAnswer, calculateAnswer, loopbackAnswer, baudOf};
 ghost use Rattle.zynq7000_hal.specs.Presets.{presetOf, ioModeConfig};
 ghost use Rattle.zynq7000_hal.specs.Initialize.{initialConfig, writtenWords, loopbackWords, initializedAnswer, initializeAnswer};
 use crate::clocks::Clocks;
@@ -48,6 +48,8 @@ pub enum ClockCalculationError {
     ZeroClock,
     // Twice the loopback target does not fit 32 bits.
     TargetTooFast,
+    // The baud rate divisor would have to be above 256.
+    BaudDivOutOfRange,
 }
 
 impl ClockCalculationError {
@@ -60,6 +62,7 @@ impl ClockCalculationError {
             ClockCalculationError::RefDivOutOfRange => 6,
             ClockCalculationError::ZeroClock => 8,
             ClockCalculationError::TargetTooFast => 9,
+            ClockCalculationError::BaudDivOutOfRange => 31,
         }
     }
 }
@@ -107,9 +110,10 @@ fn div_ceil(n: u32, d: u32) -> u32
     if n % d == 0 { n / d } else { n / d + 1 }
 }
 
-// The rung of the Rust's ladder, its hole included: docs/DIFFERENCES.md.
+// The smallest power of two from 2 to 256 that is not below the quotient.
 fn baud_rate_div(quotient: u32) -> BaudRateDivisor
-    ensures divisor { λ r. ⌜ divisorOf r ≡ ladder quotient ⌝ }
+    requires { ⌜ quotient ≤ 256 ⌝ }
+    ensures divisor { λ r. ⌜ divisorOf r ≡ smallestPowerNotBelow quotient ⌝ }
 {
     match quotient {
         0..=2 => BaudRateDivisor::_2,
@@ -117,8 +121,8 @@ fn baud_rate_div(quotient: u32) -> BaudRateDivisor
         5..=8 => BaudRateDivisor::_8,
         9..=16 => BaudRateDivisor::_16,
         17..=32 => BaudRateDivisor::_32,
-        65..=128 => BaudRateDivisor::_64,
-        129..=256 => BaudRateDivisor::_128,
+        33..=64 => BaudRateDivisor::_64,
+        65..=128 => BaudRateDivisor::_128,
         _ => BaudRateDivisor::_256,
     }
 }
@@ -129,17 +133,20 @@ fn baud_rate(
     ref_clk_div: u8,
     qspi_ref_clk: u32,
     cpu_1x_clk: u32,
-    target_qspi_interface_clock: u32,
+    interface_target: u32,
 ) -> ClockCalculation
-    ensures answer { λ r. ⌜ answerOf r ≡ baudAnswer «src_sel» «ref_clk_div» «qspi_ref_clk» «cpu_1x_clk» «target_qspi_interface_clock» ⌝ }
+    ensures answer { λ r. ⌜ answerOf r ≡ baudAnswer «src_sel» «ref_clk_div» «qspi_ref_clk» «cpu_1x_clk» «interface_target» ⌝ }
 {
     if qspi_ref_clk < cpu_1x_clk {
         return ClockCalculation::Refused(ClockCalculationError::RefClockSmallerThanCpu1xClock);
     }
-    if target_qspi_interface_clock == 0 {
+    if interface_target == 0 {
         return ClockCalculation::Refused(ClockCalculationError::ZeroClock);
     }
-    let quotient = div_ceil(qspi_ref_clk, target_qspi_interface_clock);
+    let quotient = div_ceil(qspi_ref_clk, interface_target);
+    if 256 < quotient {
+        return ClockCalculation::Refused(ClockCalculationError::BaudDivOutOfRange);
+    }
     ClockCalculation::Config(ClockConfig {
         src_sel,
         ref_clk_div,

@@ -89,6 +89,17 @@ pub struct Clocks {
     pub cpu_1x_clk: u32,
 }
 
+impl Clocks {
+    /// The reference clock of a source.
+    pub const fn reference(&self, src_sel: u8) -> u32 {
+        match src_sel {
+            0 | 1 => self.io_ref_clk,
+            2 => self.arm_ref_clk,
+            _ => self.ddr_ref_clk,
+        }
+    }
+}
+
 /// How a call ended. `answer` is the papers' number, 0 where it is done.
 #[derive(Clone, Debug, Default, PartialEq, Eq)]
 pub struct Ended {

@@ -128,7 +128,8 @@ impl Checker {
     fn compare(&mut self, case: Case) -> Result<oracle::Ran, Box<Found>> {
         match self.sides.run(&case) {
             Ok(ran) => {
-                self.tally.count(&case, &ran.ended);
+                debug_assert!(ran.ruled != domain::rust_alone(&case.call), "{:?}", case.call);
+                self.tally.count(&case, &ran);
                 Ok(ran)
             }
             Err(failure) => Err(Box::new(Found { case, failure })),

@@ -1,4 +1,5 @@
-//! Runs a call on the published Rust, live on a source or again on the replies that a live run was given.
+//! Runs a call on the published Rust, live on a source or again on the replies that a live run was given. What the papers have on its
+//! answer is put there in one place.
 
 use crate::observe::observe;
 use call::{Call, Ended};
@@ -10,6 +11,8 @@ use std::rc::Rc;
 pub struct Ran {
     pub ended: Ended,
     pub log: Vec<u32>,
+    /// U3's rule decided the baud rate divisor or 31, on the Rust's answer.
+    pub ruled: bool,
 }
 
 /// The Rust panicked: the call was out of the domain, and the generator is at fault.
@@ -49,8 +52,15 @@ fn ran(call: &Call, source: Box<dyn Source>, room: usize, buffer: &mut [u8]) -> 
     let ran = driver::run(call, source, room, buffer);
     match ran.panic {
         Some(message) => Err(Panicked(message)),
-        None => Ok(Ran { ended: counted(call, ran.ended, &ran.log), log: ran.log }),
+        None => Ok(answered(call, ran.ended, ran.log)),
     }
+}
+
+/// The Rust's answer, with what it does not count and what U3 decides in its place.
+fn answered(call: &Call, rust: Ended, log: Vec<u32>) -> Ran {
+    let by_rule = driver::ruled(call, &rust);
+    let ruled = by_rule.is_some();
+    Ran { ended: counted(call, by_rule.unwrap_or(rust), &log), log, ruled }
 }
 
 /// The Rust counts nothing: the bytes are those of the chunks, and the sectors those of a list, that ended clean in its log.

@@ -42,6 +42,8 @@ pub struct Difference {
     pub what: String,
     pub oracle: String,
     pub port: String,
+    /// U3's rule had a part in the oracle's answer.
+    pub ruled: bool,
 }
 
 /// Why a run is no agreement.
@@ -55,7 +57,10 @@ pub enum Failure {
 impl fmt::Display for Failure {
     fn fmt(&self, f: &mut fmt::Formatter<'_>) -> fmt::Result {
         match self {
-            Failure::Differs(d) => write!(f, "{}: Rust {}, port {}", d.what, d.oracle, d.port),
+            Failure::Differs(d) => {
+                let side = if d.ruled { "Rust with U3's rule" } else { "Rust" };
+                write!(f, "{}: {side} {}, port {}", d.what, d.oracle, d.port)
+            }
             Failure::Panicked(p) => write!(f, "the Rust panicked (generator at fault): {}", p.0),
         }
     }
@@ -169,7 +174,7 @@ impl Sides {
             oracle::replay(&case.call, &case.replies, case.given, case.room, buffer).map_err(Failure::Panicked)?;
         match self.difference(&ran) {
             None => Ok(ran),
-            Some(difference) => Err(Failure::Differs(difference)),
+            Some(difference) => Err(Failure::Differs(Difference { ruled: ran.ruled, ..difference })),
         }
     }
 
@@ -191,7 +196,7 @@ impl Sides {
 }
 
 fn differs(what: String, oracle: impl fmt::Display, port: impl fmt::Display) -> Option<Difference> {
-    Some(Difference { what, oracle: oracle.to_string(), port: port.to_string() })
+    Some(Difference { what, oracle: oracle.to_string(), port: port.to_string(), ruled: false })
 }
 
 fn ended_difference(oracle: &Ended, port: &Ended) -> Option<Difference> {

@@ -3,6 +3,7 @@
 use crate::inputs::{LARGEST_SAVE, LONG};
 use crate::kind::Kind;
 use crate::observe::Observed;
+use crate::oracle::Ran;
 use crate::sides::Case;
 use call::{Call, Ended};
 use std::fmt::Write;
@@ -10,10 +11,10 @@ use std::fmt::Write;
 const ANSWERS: usize = 34;
 const LARGEST_PROGRAM: usize = 240;
 
-/// Answers that the Rust, a stop of its recorder, or the rules of a list can give to a kind of call.
+/// Answers that the Rust, a stop of its recorder, or the papers' rules for lists and quotients can give to a kind of call.
 const fn expected(kind: Kind) -> &'static [u32] {
     match kind {
-        Kind::Calculate => &[0, 6, 7],
+        Kind::Calculate => &[0, 6, 7, 31],
         Kind::CalculateWithLoopback => &[0, 6],
         Kind::LinearModeConfig => &[0],
         Kind::Initialize => &[0, 24],
@@ -61,6 +62,14 @@ marks! {
     EverySector = "all 255 sectors in one list",
     FailedLast = "21 after 254 sectors",
     LargestList = "a list of more than 16,777,216 entries",
+    LastEqual = "quotient 32",
+    FirstRuled = "quotient 33",
+    LastAccepted = "quotient 256",
+    FirstRefused = "quotient 257",
+    SixBefore31 = "6 although the quotient is above 256",
+    SevenBefore31 = "7 although the quotient is above 256",
+    SixBeforeZero = "6 although the interface target is 0",
+    SevenBeforeZero = "7 although the interface target is 0",
     SeveralChunksRead = "a read of several chunks",
     InterfaceType11 = "11 for the memory interface type",
     Density11 = "11 for the density",
@@ -94,13 +103,15 @@ marks! {
 pub struct Tally {
     runs: Vec<u64>,
     answers: Vec<[u64; ANSWERS]>,
+    /// Runs in which U3's rule decided on the Rust's answer.
+    ruled: u64,
     marks: [u64; MARKS.len()],
 }
 
 impl Tally {
     pub fn new() -> Self {
         let kinds = Kind::ALL.len();
-        Tally { runs: vec![0; kinds], answers: vec![[0; ANSWERS]; kinds], marks: [0; MARKS.len()] }
+        Tally { runs: vec![0; kinds], answers: vec![[0; ANSWERS]; kinds], ruled: 0, marks: [0; MARKS.len()] }
     }
 
     pub fn total(&self) -> u64 {
@@ -112,12 +123,14 @@ impl Tally {
     }
 
     /// Counts a run that was compared.
-    pub fn count(&mut self, case: &Case, ended: &Ended) {
-        let kind = Kind::of(&case.call);
+    pub fn count(&mut self, case: &Case, ran: &Ran) {
+        let (kind, ended) = (Kind::of(&case.call), &ran.ended);
         self.runs[kind.index()] += 1;
+        self.ruled += u64::from(ran.ruled);
         if let Some(count) = self.answers[kind.index()].get_mut(ended.answer as usize) {
             *count += 1;
         }
+        self.mark_clocks(&case.call, ended);
         self.mark_chunks(&case.call, ended);
         self.mark_sectors(&case.call, ended);
         self.mark_ids(ended);
@@ -153,6 +166,33 @@ impl Tally {
 
     fn mark(&mut self, mark: Mark, seen: bool) {
         self.marks[mark as usize] += u64::from(seen);
+    }
+
+    fn mark_clocks(&mut self, call: &Call, ended: &Ended) {
+        let Call::Calculate { src_sel, clocks, target_ref, target_interface } = call else {
+            return;
+        };
+        // As if neither 6 nor 7 came before it.
+        let reference = clocks.reference(*src_sel);
+        let divided = reference / reference.div_ceil(*target_ref);
+        let quotient = (*target_interface != 0).then(|| divided.div_ceil(*target_interface));
+        let (too_large, zero) = (quotient.is_some_and(|quotient| quotient > 256), quotient.is_none());
+        match ended.answer {
+            6 => {
+                self.mark(Mark::SixBefore31, too_large);
+                self.mark(Mark::SixBeforeZero, zero);
+            }
+            7 => {
+                self.mark(Mark::SevenBefore31, too_large);
+                self.mark(Mark::SevenBeforeZero, zero);
+            }
+            _ => {
+                self.mark(Mark::LastEqual, quotient == Some(32));
+                self.mark(Mark::FirstRuled, quotient == Some(33));
+                self.mark(Mark::LastAccepted, quotient == Some(256));
+                self.mark(Mark::FirstRefused, quotient == Some(257));
+            }
+        }
     }
 
     fn mark_chunks(&mut self, call: &Call, ended: &Ended) {
@@ -264,7 +304,16 @@ impl Tally {
         }
         let differences = u32::from(differs.is_some());
         writeln!(text, "{:<38} {:>10} runs {differences:>3} differences", "total", self.total()).unwrap();
+        if kinds.contains(&Kind::Calculate) {
+            text.push_str(&self.split());
+        }
         text
+    }
+
+    /// Runs of `calculate` by what they were compared with.
+    fn split(&self) -> String {
+        let alone = self.runs(Kind::Calculate) - self.ruled;
+        format!("of calculate {alone} runs with the Rust alone, {} by U3's rule on the Rust's answer\n", self.ruled)
     }
 
     /// Runs by answer, then the turns that were taken.

@@ -9,10 +9,12 @@ use std::{
 use call::{Call, Ended};
 use recorder::{Outcome, Recorded};
 
+pub use baud_rate::{LAST_EQUAL_QUOTIENT, baud_rate_divisor, quotient, ruled};
 pub use calls::{Flash, Values, call_published};
 pub use recorder::Source;
 pub use refusal::{Refusal, refusal};
 
+mod baud_rate;
 mod calls;
 mod refusal;
 
@@ -40,7 +42,8 @@ thread_local! {
 /// The log holds the call's own accesses: the driver value is made before, in a recording of its own. A call that
 /// stopped or panicked takes its driver value with it.
 ///
-/// A list that document 02 refuses is not handed to the Rust, which would erase what stands before the refused entry.
+/// A list that document 02 refuses is not handed to the Rust, which would erase what stands before the refused entry. Of `calculate`
+/// the answer is the Rust's own at every quotient; [ruled] has document 02's.
 pub fn run(call: &Call, source: Box<dyn Source>, room: usize, buffer: &mut [u8]) -> Ran {
     if let Call::EraseSectors { list } = call
         && let Some(Refusal { answer, place }) = refusal(list)

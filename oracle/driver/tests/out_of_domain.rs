@@ -104,6 +104,22 @@ fn loopback_target_past_31_bits() {
     }
 }
 
+/// Document 02 gives 64, 128, 256 and 31. The Rust's ladder lacks the rung of 33 to 64, and those above it stand one too low.
+#[test]
+fn quotients_past_32() {
+    let divisor = |quotient| {
+        let clocks = Clocks { io_ref_clk: quotient, arm_ref_clk: 0, ddr_ref_clk: 0, cpu_1x_clk: 0 };
+        let ran = run(&Call::Calculate { src_sel: 0, clocks, target_ref: quotient, target_interface: 1 });
+        assert_eq!((ran.ended.answer, &ran.ended.values[..3]), (0, &[0, 1, 0][..]));
+        ran.ended.values[3]
+    };
+    assert_eq!(divisor(32), 32, "the last quotient inside");
+    assert_eq!([33, 64].map(divisor), [256; 2]);
+    assert_eq!([65, 128].map(divisor), [64; 2]);
+    assert_eq!([129, 256].map(divisor), [128; 2]);
+    assert_eq!([257, u32::MAX].map(divisor), [256; 2]);
+}
+
 /// Document 01 gives 8, in the order the Rust divides.
 #[test]
 fn zero_divisors() {

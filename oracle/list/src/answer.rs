@@ -39,6 +39,7 @@ pub fn answered(case: &Case) -> Answered {
     let source = Replies::new(case.replies.clone());
     let ran = driver::run(&case.call, Box::new(source), case.room, &mut buffer);
     assert!(ran.panic.is_none(), "out of the domain of equality: {:X?}: {:?}", case.call, ran.panic);
+    assert!(driver::ruled(&case.call, &ran.ended).is_none(), "past quotient 32: {:X?}", case.call);
     let mut ended = ran.ended;
     match case.call {
         Call::WritePages { .. } => ended.programmed = programmed(&ran.log),

@@ -108,7 +108,8 @@ fn caught(mutant: &Mutant, checker: &mut Checker, found: Found) -> String {
     let length = counters::length(&found.case.call);
     let unit = if Kind::of(&found.case.call) == Kind::EraseSectors { "entries" } else { "bytes" };
     let size = if mutant.long && length > 0 { format!(" in {length} {unit}") } else { String::new() };
-    format!("{size}: {}", shrink(checker, found).failure)
+    let found = shrink(checker, found);
+    format!("{size}: {}{}", found.failure, clocks::numbers(&found.case.call))
 }
 
 fn kinds(mutant: &Mutant) -> String {
