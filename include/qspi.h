@@ -7,7 +7,7 @@
  * `answer` is 0 where the call is done, else the number of document 01 or 02: 1 OutOfRange, 2 Alignment, 3 DataTooLarge,
  * 4 NotAligned, 5 CrossesPageBoundary, 6 RefDivOutOfRange, 7 RefClockSmallerThanCpu1xClock, 8 ZeroClock, 9 TargetTooFast,
  * 10 AddressSpan, 11 UnknownCode, 12 FieldTooWide, 21 EraseErrorBitSet, 22 ProgrammingErrorBitSet, 23 RepliesEnded,
- * 24 LogFull, 32 RepeatedSector, 33 ListTooLong. Any value of any argument gets one of these answers.
+ * 24 LogFull, 31 BaudDivOutOfRange, 32 RepeatedSector, 33 ListTooLong. Any value of any argument gets one of these answers.
  *
  * After 23 or 24 a transfer may be open: chip select is then low, and TX words may wait that the next call would send ahead of
  * its own. A write enable after a save that ended so can program its command byte behind the save's data. Reset the controller
@@ -142,7 +142,9 @@ struct qspi_preset {
     uint32_t value;
 };
 
-/* Clocks in hertz. `src_sel` is 0 or 1 (I/O PLL), 2 (ARM PLL) or 3 (DDR PLL), above it 12. */
+/* Clocks in hertz. `src_sel` is 0 or 1 (I/O PLL), 2 (ARM PLL) or 3 (DDR PLL), above it 12. Of qspi_calculate the baud rate
+ * divisor is the smallest power of two from 2 to 256 with which the interface clock is not above its target; where 256 is too
+ * small the answer is 31. */
 struct qspi_clock_config qspi_calculate(uint8_t src_sel, uint32_t io_ref_clk, uint32_t arm_ref_clk, uint32_t ddr_ref_clk,
                                         uint32_t cpu_1x_clk, uint32_t target_qspi_ref_clock,
                                         uint32_t target_qspi_interface_clock);

@@ -3,7 +3,7 @@
 /// Gives the enum of the numbers and the ways between a number, its case and its name.
 macro_rules! answers {
     ($($(#[$note:meta])* $name:ident = $number:literal),* $(,)?) => {
-        /// How a call can end, with document 01's number and name; from 32 on they are document 02's.
+        /// How a call can end, with document 01's number and name; from 31 on they are document 02's.
         #[derive(Clone, Copy, Debug, PartialEq, Eq)]
         #[repr(u32)]
         #[non_exhaustive]
@@ -61,6 +61,8 @@ answers! {
     RepliesEnded = 23,
     /// An access was due and fewer than two words of log were left.
     LogFull = 24,
+    /// The interface clock would need a baud rate divisor above 256.
+    BaudDivOutOfRange = 31,
     /// A list names a sector twice.
     RepeatedSector = 32,
     /// A list has more than 256 entries.

@@ -10,7 +10,7 @@ use std::fmt::{Display, Formatter, Result};
 /// list after a finished sector, `@` one that names an entry behind the first; `i`, `d` and `s` are unknown codes of interface,
 /// density and sector architecture.
 const ANSWERS: [(&str, &str); 24] = [
-    ("calculate", "0 6 7 8 12"),
+    ("calculate", "0 6 7 8 12 31"),
     ("loopback", "0 6 8 9 12"),
     ("linear_config", "0 11"),
     ("initialize", "0 12 24"),

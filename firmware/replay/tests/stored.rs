@@ -4,7 +4,7 @@ use replay::{Memory, replay};
 
 const STDIN: &[u8] = include_bytes!("../../../crates/oracle_cases/stdin");
 const STDOUT: &str = include_str!("../../../crates/oracle_cases/stdout");
-const ANSWERS: usize = 1345;
+const ANSWERS: usize = 1368;
 
 fn replayed(input: &[u8]) -> String {
     let mut lines = String::new();
@@ -27,7 +27,7 @@ fn there_are_all_answers_and_the_bad_line() {
     let lines = replayed(STDIN);
     let answers = lines.lines().filter(|line| !line.starts_with("BAD")).count();
     assert_eq!(answers, ANSWERS);
-    assert_eq!(lines.lines().last(), Some("BAD 1345"));
+    assert_eq!(lines.lines().last(), Some("BAD 1368"));
 }
 
 #[test]

@@ -40,6 +40,8 @@ pub enum ClockCalculationError {
     ZeroClock,
     // Twice the loopback target does not fit 32 bits.
     TargetTooFast,
+    // The baud rate divisor would have to be above 256.
+    BaudDivOutOfRange,
 }
 
 impl ClockCalculationError {
@@ -50,6 +52,7 @@ impl ClockCalculationError {
             ClockCalculationError::RefDivOutOfRange => 6,
             ClockCalculationError::ZeroClock => 8,
             ClockCalculationError::TargetTooFast => 9,
+            ClockCalculationError::BaudDivOutOfRange => 31,
         }
     }
 }
@@ -96,7 +99,8 @@ fn div_ceil(n: u32, d: u32) -> u32 {
     if n % d == 0 { n / d } else { n / d + 1 }
 }
 
-// The rung of the Rust's ladder, its hole included: docs/DIFFERENCES.md.
+// The smallest power of two from 2 to 256 that is not below the quotient.
+// requires { ⌜ quotient ≤ 256 ⌝ }
 fn baud_rate_div(quotient: u32) -> BaudRateDivisor {
     match quotient {
         0..=2 => BaudRateDivisor::_2,
@@ -104,8 +108,8 @@ fn baud_rate_div(quotient: u32) -> BaudRateDivisor {
         5..=8 => BaudRateDivisor::_8,
         9..=16 => BaudRateDivisor::_16,
         17..=32 => BaudRateDivisor::_32,
-        65..=128 => BaudRateDivisor::_64,
-        129..=256 => BaudRateDivisor::_128,
+        33..=64 => BaudRateDivisor::_64,
+        65..=128 => BaudRateDivisor::_128,
         _ => BaudRateDivisor::_256,
     }
 }
@@ -116,15 +120,18 @@ fn baud_rate(
     ref_clk_div: u8,
     qspi_ref_clk: u32,
     cpu_1x_clk: u32,
-    target_qspi_interface_clock: u32,
+    interface_target: u32,
 ) -> ClockCalculation {
     if qspi_ref_clk < cpu_1x_clk {
         return ClockCalculation::Refused(ClockCalculationError::RefClockSmallerThanCpu1xClock);
     }
-    if target_qspi_interface_clock == 0 {
+    if interface_target == 0 {
         return ClockCalculation::Refused(ClockCalculationError::ZeroClock);
     }
-    let quotient = div_ceil(qspi_ref_clk, target_qspi_interface_clock);
+    let quotient = div_ceil(qspi_ref_clk, interface_target);
+    if 256 < quotient {
+        return ClockCalculation::Refused(ClockCalculationError::BaudDivOutOfRange);
+    }
     ClockCalculation::Config(ClockConfig {
         src_sel,
         ref_clk_div,
