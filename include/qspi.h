@@ -143,8 +143,8 @@ struct qspi_preset {
 };
 
 /* Clocks in hertz. `src_sel` is 0 or 1 (I/O PLL), 2 (ARM PLL) or 3 (DDR PLL), above it 12. Of qspi_calculate the baud rate
- * divisor is the smallest power of two from 2 to 256 with which the interface clock is not above its target; where 256 is too
- * small the answer is 31. */
+ * divisor is the smallest power of two from 2 to 256 with which the interface clock is not above its target, the divided
+ * reference clock taken in whole hertz, rounded down; where 256 is too small the answer is 31. */
 struct qspi_clock_config qspi_calculate(uint8_t src_sel, uint32_t io_ref_clk, uint32_t arm_ref_clk, uint32_t ddr_ref_clk,
                                         uint32_t cpu_1x_clk, uint32_t target_qspi_ref_clock,
                                         uint32_t target_qspi_interface_clock);

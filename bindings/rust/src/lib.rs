@@ -192,8 +192,8 @@ pub struct Clocks {
 }
 
 /// Divisors for a reference target and an interface target. `src_sel` is 0 or 1 (I/O PLL), 2 (ARM PLL) or 3 (DDR PLL). The baud
-/// rate divisor is the smallest power of two from 2 to 256 with which the interface clock is not above its target; where 256 is
-/// too small the answer is [Answer::BaudDivOutOfRange].
+/// rate divisor is the smallest power of two from 2 to 256 with which the interface clock is not above its target, the divided
+/// reference clock taken in whole hertz, rounded down; where 256 is too small the answer is [Answer::BaudDivOutOfRange].
 pub fn calculate(
     src_sel: u8,
     clocks: Clocks,
