@@ -278,7 +278,7 @@ pub data SendsNothing : Script → Type 0 where
   enable-io-mode : (dual : Bool) → SendsNothing (call.enableIoMode dual)
   disable : SendsNothing call.disable
 
--- THEOREM. Every other call is covered.
+-- THEOREM. Every other call of 01 is covered. The list of sectors (document 02, U1) is a case of `Sends` too.
 pub all-that-send : {s : Script} → Call s → Sends s ⊎ SendsNothing s
 all-that-send Call.write-enable = inl write-enable
 all-that-send Call.write-disable = inl write-disable
