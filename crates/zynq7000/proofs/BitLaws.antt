@@ -4,12 +4,12 @@ use Prim.Native.Nat.{ℕ, _+_, _-_, _*_, _/_, _%_, _^_, _<_, _≤_}
 use mathlib.Core.Path.{_≡_, refl, sym, ap, _∙_}
 use mathlib.Core.Bool.{Bool, true, false}
 use native.Mathlib.Omega.{arith}
-use native.Mathlib.Nat.{add-mul, mod-lt, mod-eq-of-lt, one-mul, zero-mul, le-trans, le-of-eq, mul-le-mul-right, div-mul-le-self}
+use native.Mathlib.Nat.{add-mul, mod-lt, mod-eq-of-lt, one-mul, zero-mul, zero-mod, zero-div, le-trans, le-of-eq, mul-le-mul-right, div-mul-le-self}
 use lib.Arith.{digits-lt}
 use lib.Dec.{ltb}
-use lib.Pow.{pow-pos, pow-add, pow-lt, split, high, low, shr-shr, shr-lt, field, mod-mod-pow}
+use lib.Pow.{pow-pos, pow-add, pow-lt, split, high, low, shl-shr, shr-shr, shr-lt, field, mod-mod-pow}
 use borrow.Author.Tests.{ltb-true, ltb-false}
-use Rattle.zynq7000.specs.Bits.{bit, put, clear}
+use Rattle.zynq7000.specs.Bits.{bit, put, clear, zeroBelow}
 
 -- the code's `1 << i`
 pub weight : (i : ℕ) → i < 32 → 2 ^ i % 2 ^ 32 ≡ 2 ^ i
@@ -108,3 +108,16 @@ put-fits i w hi hw =
     let v : (w / 2 ^ i + (1 - w / 2 ^ i % 2)) * 2 ^ i + w % 2 ^ i < 2 ^ (32 - i) * 2 ^ i = digits-lt u (mod-lt w (pow-pos i)) in
     let p : 2 ^ (32 - i) * 2 ^ i ≡ 2 ^ 32 = sym (pow-add 2 (32 - i) i) ∙ ap (λ (n : ℕ). 2 ^ n) s in
     omega (arith, put-parts i w)
+
+-- ---- all bits below bit n zero
+
+pub zero-below-from : (n i w : ℕ) → n ≤ i → bit i (zeroBelow n w) ≡ bit i w
+zero-below-from n i w h =
+    let s : n + (i - n) ≡ i = omega arith in
+    rw s at (bit-above (zeroBelow n w) w n (i - n) (shl-shr (w / 2 ^ n) n))
+
+pub zero-below-under : (n i w : ℕ) → i < n → bit i (zeroBelow n w) ≡ 0
+zero-below-under n i w h =
+    let s : (n - (1 + i)) + (1 + i) ≡ n = omega arith in
+    let e : zeroBelow n w % 2 ^ n ≡ 0 % 2 ^ n = ap (λ (x : ℕ). x % 2 ^ n) (omega arith) ∙ (low (w / 2 ^ n) n (pow-pos n) ∙ sym (zero-mod (2 ^ n))) in
+    bit-below (zeroBelow n w) 0 (n - (1 + i)) i (rw s e) ∙ ap (λ (x : ℕ). x % 2) (zero-div (2 ^ i))

@@ -1,3 +1,4 @@
 pub mod AccessLaws
 pub mod BitLaws
+pub mod ByField
 pub mod Words

@@ -46,14 +46,31 @@ and-right : (a b : Bool) → T (a && b) → T b
 and-right true b t = t
 and-right false b t = absurd t
 
-assemble-lt : (fs : List Field) (vs : List ℕ) (top : ℕ) → T (descends top fs) → assemble fs vs < 2 ^ top
+-- the first field lies below bit `top`, and the others below the first
+pub first-fits : (low width : ℕ) (fs : List Field) (top : ℕ) → T (descends top (field low width ∷ fs)) → low + width ≤ top
+first-fits low width fs top t = leb→le (low + width) top (and-left (leb (low + width) top) (descends low fs) t)
+
+pub rest-descends : (low width : ℕ) (fs : List Field) (top : ℕ) → T (descends top (field low width ∷ fs)) → T (descends low fs)
+rest-descends low width fs top t = and-right (leb (low + width) top) (descends low fs) t
+
+pub assemble-lt : (fs : List Field) (vs : List ℕ) (top : ℕ) → T (descends top fs) → assemble fs vs < 2 ^ top
 assemble-lt [] vs top t = pow-pos top
 assemble-lt (f ∷ fs) [] top t = pow-pos top
 assemble-lt (field low width ∷ fs) (v ∷ vs) top t =
-    let fits : low + width ≤ top = leb→le (low + width) top (and-left (leb (low + width) top) (descends low fs) t) in
-    let rest : assemble fs vs < 2 ^ low = assemble-lt fs vs low (and-right (leb (low + width) top) (descends low fs) t) in
+    let fits = first-fits low width fs top t in
+    let rest : assemble fs vs < 2 ^ low = assemble-lt fs vs low (rest-descends low width fs top t) in
     lt-of-lt-of-le (digits-lt (mod-lt v (pow-pos width)) rest)
     (le-trans (le-of-eq (sym (pow-add 2 width low))) (pow-mono (omega arith)))
+
+-- what ends at bit `top` ends at each bit below it
+pub ends-lower : (q low top : ℕ) → low ≤ top → q * 2 ^ top ≡ q * 2 ^ (top - low) * 2 ^ low
+ends-lower q low top h =
+    let s : (top - low) + low ≡ top = omega arith in
+    ap (λ (n : ℕ). q * 2 ^ n) (sym s) ∙ (ap (λ (n : ℕ). q * n) (pow-add 2 (top - low) low) ∙ sym (mul-assoc q (2 ^ (top - low)) (2 ^ low)))
+
+-- and with a field's value x behind it, at the field's lowest bit
+pub field-behind : (q x low top : ℕ) → low ≤ top → q * 2 ^ top + x * 2 ^ low ≡ (q * 2 ^ (top - low) + x) * 2 ^ low
+field-behind q x low top h = omega (arith, ends-lower q low top h, add-mul (q * 2 ^ (top - low)) x (2 ^ low))
 
 -- also where more stands from bit `top` up
 holds-below : (fs : List Field) (vs : List ℕ) (top high : ℕ) → T (descends top fs) → Holds fs vs (high * 2 ^ top + assemble fs vs)
@@ -61,11 +78,11 @@ holds-below [] vs top high t = tt
 holds-below (f ∷ fs) [] top high t = tt
 holds-below (field low width ∷ fs) (v ∷ vs) top high t =
     let x = v % 2 ^ width in
-    let ok : T (descends low fs) = and-right (leb (low + width) top) (descends low fs) t in
-    let fits : low + width ≤ top = leb→le (low + width) top (and-left (leb (low + width) top) (descends low fs) t) in
+    let ok = rest-descends low width fs top t in
+    let fits = first-fits low width fs top t in
     let up = high * 2 ^ (top - low) + x in
     let same : high * 2 ^ top + (x * 2 ^ low + assemble fs vs) ≡ up * 2 ^ low + assemble fs vs =
-    shift-up high x low (top - low) top (assemble fs vs) (omega arith) in
+    omega (arith, field-behind high x low top (omega arith)) in
     let own : up % 2 ^ width ≡ x =
     ap (λ (n : ℕ). (high * 2 ^ n + x) % 2 ^ width) (omega arith) ∙ top-field high x (top - low - width) width (mod-lt v (pow-pos width)) in
     rw same (
@@ -73,12 +90,6 @@ holds-below (field low width ∷ fs) (v ∷ vs) top high t =
       holds-below fs vs low up ok,
     )
   where
-    shift-up : (h x low d top r : ℕ) → d + low ≡ top → h * 2 ^ top + (x * 2 ^ low + r) ≡ (h * 2 ^ d + x) * 2 ^ low + r
-    shift-up h x low d top r e =
-        let p : h * 2 ^ top ≡ h * 2 ^ d * 2 ^ low =
-        ap (λ (n : ℕ). h * 2 ^ n) (sym e) ∙ (ap (λ (n : ℕ). h * n) (pow-add 2 d low) ∙ sym (mul-assoc h (2 ^ d) (2 ^ low))) in
-        omega (arith, add-mul (h * 2 ^ d) x (2 ^ low))
-
     top-field : (h x d width : ℕ) → x < 2 ^ width → (h * 2 ^ (d + width) + x) % 2 ^ width ≡ x
     top-field h x d width lt =
         ap (λ (n : ℕ). (n + x) % 2 ^ width) (ap (λ (n : ℕ). h * n) (pow-add 2 d width) ∙ sym (mul-assoc h (2 ^ d) (2 ^ width)))

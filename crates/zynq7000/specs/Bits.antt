@@ -18,6 +18,10 @@ put i w = w + (1 - bit i w) * 2 ^ i
 abbrev pub clear : ℕ → ℕ → ℕ
 clear i w = w - bit i w * 2 ^ i
 
+-- w with all bits below bit n zero
+abbrev pub zeroBelow : ℕ → ℕ → ℕ
+zeroBelow n w = w / 2 ^ n * 2 ^ n
+
 -- a one-bit field's value
 abbrev pub flagValue : Bool → ℕ
 flagValue true = 1

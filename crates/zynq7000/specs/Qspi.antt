@@ -3,6 +3,7 @@
 -- which was not at hand.
 use Prim.Native.Nat.{ℕ, _+_, _*_, _%_, _^_}
 use mathlib.Core.List.{List, [], _∷_}
+use Rattle.zynq7000.specs.Bits.{zeroBelow}
 use Rattle.zynq7000.specs.declared.qspi.Register.{Register}
 use Rattle.zynq7000.specs.declared.qspi.Register.the-variants as register
 use Rattle.zynq7000.specs.declared.qspi.BaudRateDivisor.{BaudRateDivisor}
@@ -80,8 +81,14 @@ assemble [] vs = 0
 assemble (f ∷ fs) [] = 0
 assemble (field low width ∷ fs) (v ∷ vs) = v % 2 ^ width * 2 ^ low + assemble fs vs
 
+-- the word after each field of a table, where it is put together field by field from bit 31 down (document 02, U4): the final word w with
+-- all bits below that field zero
+abbrev pub afterEach : List Field → ℕ → List ℕ
+afterEach [] w = []
+afterEach (f ∷ fs) w = zeroBelow (lowest f) w ∷ afterEach fs w
+
 -- Config_reg: 31 ifmode, 26 endian, 19 Holdb_dr, 16 Man_start_com, 15 Man_start_en, 14 Manual_CS, 10 PCS, 7:6 FIFO_WIDTH,
--- 5:3 BAUD_RATE_DIV, 2 CLK_PH, 1 CLK_POL, 0 MODE_SEL; the bits between are reserved
+-- 5:3 BAUD_RATE_DIV, 2 CLK_PH, 1 CLK_POL, 0 MODE_SEL; the bits between are 0: reserved ones, and bit 8, REF_CLK
 abbrev pub configTable : List Field
 configTable =
     field 31 1

@@ -2,10 +2,11 @@
 use Prim.Native.Nat.{ℕ, _+_, _*_, _%_, _≤_, _<_}
 use mathlib.Core.Path.{_≡_, refl}
 use mathlib.Core.Bool.{Bool}
+use mathlib.Core.List.{[], _∷_}
 use native.Mathlib.Omega.{arith}
 use native.Mathlib.Nat.{mod-eq-of-lt}
 use Rattle.zynq7000.specs.Bits.{flagValue}
-use Rattle.zynq7000.specs.Qspi.{baudCode, configWord, loopbackWord}
+use Rattle.zynq7000.specs.Qspi.{baudCode, configValues, configWord, loopbackWord}
 use Rattle.zynq7000.specs.Slcr.{sourceCode, clockControlWord}
 use Rattle.zynq7000.specs.declared.qspi.BaudRateDivisor.{BaudRateDivisor}
 use Rattle.zynq7000.specs.declared.qspi.BaudRateDivisor.the-variants as baud
@@ -29,6 +30,11 @@ source-lt IoPll = omega arith
 source-lt IoPllAlt = omega arith
 source-lt ArmPll = omega arith
 source-lt DdrPll = omega arith
+
+-- the fields' values as the Rust's `initialize` gives them, in the table's order
+pub initial-values : (d : BaudRateDivisor) (phase polarity : Bool)
+    → configValues (initialConfig d phase polarity) ≡ 1 ∷ 0 ∷ 1 ∷ 0 ∷ 0 ∷ 0 ∷ 0 ∷ 3 ∷ baudCode d ∷ flagValue phase ∷ flagValue polarity ∷ 1 ∷ []
+initial-values d phase polarity = refl
 
 -- "800800C1 plus baud code times 8, plus 4 for phase, plus 2 for polarity"
 pub config-word : (d : BaudRateDivisor) (phase polarity : Bool)

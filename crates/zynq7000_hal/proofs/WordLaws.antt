@@ -1,27 +1,42 @@
 -- The words as the code adds them up are those of the tables: values within their widths lose nothing, and absent fields are 0. Assumes
 -- nothing.
 use Prim.Native.Nat.{ℕ, _+_, _*_, _%_, _<_, _≤_}
-use mathlib.Core.Path.{_≡_}
+use mathlib.Core.Path.{_≡_, refl}
 use mathlib.Core.Bool.{Bool, true, false}
+use mathlib.Core.List.{[], _∷_}
 use native.Mathlib.Omega.{arith}
 use native.Mathlib.Nat.{mod-eq-of-lt}
 use Rattle.zynq7000.specs.Bits.{flagValue}
+use Rattle.zynq7000.specs.Qspi.{configTable}
+use Rattle.zynq7000.proofs.ByField.{sums}
 use Rattle.zynq7000_hal.specs.Presets.{modeBits}
 
 pub flag-le : (b : Bool) → flagValue b ≤ 1
 flag-le true = omega arith
 flag-le false = omega arith
 
--- a baud code k, a phase p and a polarity q
-pub config-sum : (k p q a b : ℕ) → k < 8 → p ≤ 1 → q ≤ 1 → a ≡ p * 4 → b ≡ q * 2
-    → (((2148008128 + k * 8 % 4294967296) + a) + b) + 1
-    ≡ 2147483648 + (0 + (524288 + (0 + (0 + (0 + (0 + (192 + (k % 8 * 8 + (p % 2 * 4 + (q % 2 * 2 + 1))))))))))
-config-sum k p q a b hk hp hq ea eb =
+-- the config word after each field as the code adds it up, with a baud code k, a phase p and a polarity q
+pub config-added : (k p q a b : ℕ) → k < 8 → p ≤ 1 → q ≤ 1 → a ≡ p * 4 → b ≡ q * 2
+    → 0x80000000
+    ∷ 0x80000000
+    ∷ 0x80080000
+    ∷ 0x80080000
+    ∷ 0x80080000
+    ∷ 0x80080000
+    ∷ 0x80080000
+    ∷ 0x800800C0
+    ∷ (0x800800C0 + k * 8 % 4294967296)
+    ∷ ((0x800800C0 + k * 8 % 4294967296) + a)
+    ∷ (((0x800800C0 + k * 8 % 4294967296) + a) + b)
+    ∷ ((((0x800800C0 + k * 8 % 4294967296) + a) + b) + 1)
+    ∷ []
+    ≡ sums 0 configTable (1 ∷ 0 ∷ 1 ∷ 0 ∷ 0 ∷ 0 ∷ 0 ∷ 3 ∷ k ∷ p ∷ q ∷ 1 ∷ [])
+config-added k p q a b hk hp hq ea eb =
     let x : k * 8 % 4294967296 ≡ k * 8 = mod-eq-of-lt (omega arith) in
     let y : k % 8 ≡ k = mod-eq-of-lt hk in
     let z : p % 2 ≡ p = mod-eq-of-lt (omega arith) in
     let w : q % 2 ≡ q = mod-eq-of-lt (omega arith) in
-    rw (x, y, z, w) (omega arith)
+    rw (x, y, z, w, ea, eb) refl
 
 mode-lt : (b : Bool) → modeBits b < 256
 mode-lt true = omega arith

@@ -275,15 +275,60 @@ pub enum Initialization {
     FieldTooWide,
 }
 
-// The config word, its fields from bit 31 down; those that are not here are 0.
+// The config word of `initialize` after each field, put together in the order of UG585's table of the
+// register, from bit 31 down: the field's bits, its name there and its value. The last is the word that
+// is written.
+pub fn config_by_field(divisor: BaudRateDivisor, phase: bool, polarity: bool) -> [u32; 12] {
+    // 31 ifmode: 1, the flash memory interface.
+    let interface_mode = 1 << Config::INTERFACE_MODE;
+    // 30:27 reserved.
+    // 26 endian: 0, low byte first.
+    let edianness = interface_mode + (0 << Config::EDIANNESS);
+    // 25:20 reserved.
+    // 19 Holdb_dr: 1, the HOLD_B/WP_B pin is driven.
+    let holdb_dr = edianness + (1 << Config::HOLDB_DR);
+    // 18:17 reserved.
+    // 16 Man_start_com: 0, nothing is started.
+    let manual_start_command = holdb_dr + (0 << Config::MANUAL_START_COMMAND);
+    // 15 Man_start_en: 0, the controller starts by itself.
+    let manual_start_enable = manual_start_command + (0 << Config::MANUAL_START_ENABLE);
+    // 14 Manual_CS: 0, the controller drives chip select.
+    let manual_cs = manual_start_enable + (0 << Config::MANUAL_CS);
+    // 13:11 reserved.
+    // 10 PCS: 0, without a meaning while bit 14 is 0.
+    let peripheral_chip_select = manual_cs + (0 << Config::PERIPHERAL_CHIP_SELECT);
+    // 9 reserved.
+    // 8 REF_CLK: 0, as it must be.
+    // 7:6 FIFO_WIDTH: 3, words of 32 bits.
+    let fifo_width = peripheral_chip_select + (3 << Config::FIFO_WIDTH);
+    // 5:3 BAUD_RATE_DIV: the divisor's code.
+    let baud_rate_div = fifo_width + (divisor.raw_value() << Config::BAUD_RATE_DIV);
+    // 2 CLK_PH: the phase.
+    let clock_phase = baud_rate_div + bits::flag(phase, Config::CLOCK_PHASE);
+    // 1 CLK_POL: the polarity.
+    let clock_polarity = clock_phase + bits::flag(polarity, Config::CLOCK_POLARITY);
+    // 0 MODE_SEL: 1, as it must be.
+    let mode_select = clock_polarity + (1 << Config::MODE_SELECT);
+    [
+        interface_mode,
+        edianness,
+        holdb_dr,
+        manual_start_command,
+        manual_start_enable,
+        manual_cs,
+        peripheral_chip_select,
+        fifo_width,
+        baud_rate_div,
+        clock_phase,
+        clock_polarity,
+        mode_select,
+    ]
+}
+
+// The config word of `initialize`.
 fn config_word(divisor: BaudRateDivisor, phase: bool, polarity: bool) -> u32 {
-    (1 << Config::INTERFACE_MODE)
-        + (1 << Config::HOLDB_DR)
-        + (3 << Config::FIFO_WIDTH)
-        + (divisor.raw_value() << Config::BAUD_RATE_DIV)
-        + bits::flag(phase, Config::CLOCK_PHASE)
-        + bits::flag(polarity, Config::CLOCK_POLARITY)
-        + (1 << Config::MODE_SELECT)
+    let words = config_by_field(divisor, phase, polarity);
+    words[11]
 }
 
 // requires { ⌜ divisor < 64 ⌝ }
