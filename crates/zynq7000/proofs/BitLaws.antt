@@ -121,3 +121,7 @@ zero-below-under n i w h =
     let s : (n - (1 + i)) + (1 + i) ≡ n = omega arith in
     let e : zeroBelow n w % 2 ^ n ≡ 0 % 2 ^ n = ap (λ (x : ℕ). x % 2 ^ n) (omega arith) ∙ (low (w / 2 ^ n) n (pow-pos n) ∙ sym (zero-mod (2 ^ n))) in
     bit-below (zeroBelow n w) 0 (n - (1 + i)) i (rw s e) ∙ ap (λ (x : ℕ). x % 2) (zero-div (2 ^ i))
+
+-- below bit 0 there is none
+pub zero-below-none : (w : ℕ) → zeroBelow 0 w ≡ w
+zero-below-none w = omega arith

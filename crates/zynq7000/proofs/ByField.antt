@@ -66,29 +66,25 @@ after-at [] w i h = absurd (omega (arith, h))
 after-at (f ∷ fs) w zero h = refl
 after-at (f ∷ fs) w (suc i) h = after-at fs w i (omega arith)
 
--- below bit 0 there is nothing
-pub whole : (w : ℕ) → zeroBelow 0 w ≡ w
-whole w = omega arith
-
 -- ---- with the reserved bits
 
 -- a row of the manual's table: a field that has a value, or bits that are 0
-pub data Row : Type 0 where
-  named : Field → Row
-  reserved : Field → Row
+pub data TableRow : Type 0 where
+  named : Field → TableRow
+  reserved : Field → TableRow
 
-abbrev pub rowsOf : List Row → List Field
+abbrev pub rowsOf : List TableRow → List Field
 rowsOf [] = []
 rowsOf (named f ∷ rs) = f ∷ rowsOf rs
 rowsOf (reserved f ∷ rs) = f ∷ rowsOf rs
 
-abbrev pub fieldsOf : List Row → List Field
+abbrev pub fieldsOf : List TableRow → List Field
 fieldsOf [] = []
 fieldsOf (named f ∷ rs) = f ∷ fieldsOf rs
 fieldsOf (reserved f ∷ rs) = fieldsOf rs
 
 -- the fields' values, with 0 for each reserved row
-abbrev pub withZeros : List Row → List ℕ → List ℕ
+abbrev pub withZeros : List TableRow → List ℕ → List ℕ
 withZeros [] vs = []
 withZeros (reserved f ∷ rs) vs = 0 ∷ withZeros rs vs
 withZeros (named f ∷ rs) [] = 0 ∷ withZeros rs []
@@ -100,7 +96,7 @@ tiles top [] = eqb top 0
 tiles top (field low width ∷ fs) = eqb (low + width) top && tiles low fs
 
 -- Config_reg whole, as recalled: reserved 30:27, 25:20, 18:17, 13:11 and 9, and bit 8, REF_CLK, which must be 0
-abbrev pub configRows : List Row
+abbrev pub configRows : List TableRow
 configRows =
     named (field 31 1)
     ∷ reserved (field 27 4)

@@ -10,6 +10,7 @@ use lib.Arith.{digits-lt}
 use lib.Dec.{T, leb, leb→le}
 use lib.Pow.{pow-pos, pow-add, pow-mono}
 use lib.Pow.{high as high-part, low as low-part}
+use Rattle.zynq7000.specs.Bits.{bit}
 use Rattle.zynq7000.specs.Qspi.{baudCode, divisorOf, Field, field, assemble}
 use Rattle.zynq7000.specs.Qspi.{Config, configTable, configValues, configWord, Linear, linearTable, linearValues, linearWord, loopbackTable, loopbackWord}
 use Rattle.zynq7000.specs.Slcr.{clockControlTable, clockControlWord}
@@ -103,6 +104,23 @@ read-back fs vs t =
 
 pub config-read-back : (c : Config) → Holds configTable (configValues c) (configWord c)
 config-read-back c = read-back configTable (configValues c) tt
+
+-- by name: each value stands in its own field, so that no two of them are exchanged where both are 0
+pub config-by-name : (c : Config)
+    → (bit 31 (configWord c) ≡ c .interface-mode % 2)
+    × ((bit 26 (configWord c) ≡ c .edianness % 2)
+    × ((bit 19 (configWord c) ≡ c .holdb-dr % 2)
+    × ((bit 16 (configWord c) ≡ c .manual-start-command % 2)
+    × ((bit 15 (configWord c) ≡ c .manual-start-enable % 2)
+    × ((bit 14 (configWord c) ≡ c .manual-cs % 2)
+    × ((bit 10 (configWord c) ≡ c .peripheral-chip-select % 2)
+    × ((configWord c / 2 ^ 6 % 4 ≡ c .fifo-width % 4)
+    × ((configWord c / 2 ^ 3 % 8 ≡ c .baud-rate-div % 8)
+    × ((bit 2 (configWord c) ≡ c .clock-phase % 2)
+    × ((bit 1 (configWord c) ≡ c .clock-polarity % 2)
+    × ((bit 0 (configWord c) ≡ c .mode-select % 2)
+    × Unit {0})))))))))))
+config-by-name c = config-read-back c
 
 pub loopback-read-back : (on delay1 delay0 : ℕ) → Holds loopbackTable (on ∷ delay1 ∷ delay0 ∷ []) (loopbackWord on delay1 delay0)
 loopback-read-back on delay1 delay0 = read-back loopbackTable (on ∷ delay1 ∷ delay0 ∷ []) tt
