@@ -1,5 +1,7 @@
 // A log of register accesses: what stands at each place of it, and its text.
 // A place is a record's number from 0. A log is words, two a record, or their little-endian bytes.
+#![tactic(auto)]
+
 ghost use Rattle.std.specs.Prelude.{◌≡◌};
 ghost use Rattle.access_log.specs.Log.{answer_of, answer_at, entry_of, entry_at};
 
@@ -13,7 +15,7 @@ pub use printer::{Rendered, render, render_words};
 pub use reader::{Found, LogReader, accesses, found_at};
 
 // What stands at a place of a log.
-#[derive(Drop)]
+#[derive(Clone, Copy)]
 pub enum Entry {
     Access(Access),
     // The log holds nothing from here on.

@@ -15,7 +15,7 @@ const ROOM: usize = 7200;
 const LINE: usize = 14;
 
 // How a buffer was rendered.
-#[derive(Drop)]
+#[derive(Clone, Copy)]
 pub struct Rendered {
     // The bytes of text at the front of the buffer.
     pub len: usize,

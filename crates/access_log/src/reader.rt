@@ -6,7 +6,7 @@ ghost use Rattle.access_log.specs.Reader.{found_at, next_of, read_of, accesses_i
 use crate::{Entry, entry_at};
 
 // What a reader finds at a place.
-#[derive(Drop)]
+#[derive(Clone, Copy)]
 pub struct Found {
     pub entry: Entry,
     // Where to read on: behind an access; the end and a record that 13 refuses stay.
@@ -34,7 +34,7 @@ fn is_access(entry: Entry) -> bool
 }
 
 // A lent log and the place that is read next.
-#[derive(Drop)]
+#[derive(Clone, Copy)]
 pub struct LogReader<'a> {
     pub log: &'a [u32],
     pub at: usize,

@@ -7,7 +7,7 @@ use zynq7000::slcr::clocks::SrcSelIo;
 use zynq7000_hal::qspi::{BaudRateConfig, ClockConfig};
 
 // A call, its inputs, and how its replies come.
-#[derive(Drop)]
+#[derive(Clone, Copy)]
 pub struct Trial {
     pub call: usize,
     pub a: usize,

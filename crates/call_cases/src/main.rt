@@ -12,10 +12,12 @@
 // Of a line that is no such case, `BAD` and its number are printed, from 0 on, and nothing after it. 0 is
 // also the number of an input of 8,192 bytes or more. `tools/expected_calls` makes the cases and, by a
 // model, the stored output.
+#![tactic(auto)]
+
 use crate::call::Trial;
 use crate::memory::{Ended, LOG};
 use crate::source::Source;
-use libc::STDIN_FILENO;
+use printing::STDIN_FILENO;
 use qspi_operation::{Op, Reply};
 
 mod call;

@@ -12,7 +12,7 @@ pub const UNTOUCHED: u32 = 0xA5A5_5A5A;
 pub const UNTOUCHED_BYTE: u8 = 0x5A;
 
 // How a call ended, with the last three replies of its last transfer.
-#[derive(Drop)]
+#[derive(Clone, Copy)]
 pub struct Ended {
     pub answer: usize,
     pub used: usize,

@@ -1,7 +1,7 @@
 // The lines of the cases.
 use crate::call::Trial;
 use crate::memory::Ended;
-use libc::STDOUT_FILENO;
+use printing::STDOUT_FILENO;
 use zedboard_bsp::qspi_spansion::device_id::{BaseDeviceId, ExtendedDeviceId};
 use zedboard_bsp::qspi_spansion::words;
 

@@ -5,7 +5,7 @@
 use qspi_operation::Asked;
 
 // What was drawn last, whether the controller is enabled, and the last reply.
-#[derive(Drop)]
+#[derive(Clone, Copy)]
 pub struct Source {
     pub seed: u32,
     pub enabled: bool,

@@ -1,10 +1,13 @@
 // Runs the clock calculations on the cases of documents 01 and 02, on both sides of each border of
 // rules 6 to 9 and 31, on coinciding causes, and on every quotient up to 300. `tools/clock_cases` makes
 // the stored output.
-use libc::STDOUT_FILENO;
+#![tactic(auto)]
+
 use zynq7000::slcr::clocks::SrcSelIo;
 use zynq7000_hal::clocks::Clocks;
 use zynq7000_hal::qspi::{BaudRateConfig, ClockCalculation, ClockConfig};
+
+const STDOUT_FILENO: i32 = 1;
 
 const MAX: u32 = 4294967295;
 

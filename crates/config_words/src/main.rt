@@ -1,9 +1,12 @@
 // Prints the config word of `initialize` after each field of UG585's table, from bit 31 down, for every
 // baud rate divisor, phase and polarity: a line each, its last word being the one that is written.
 // `tools/config_words` makes the stored output.
-use libc::STDOUT_FILENO;
+#![tactic(auto)]
+
 use zynq7000::qspi::BaudRateDivisor;
 use zynq7000_hal::qspi;
+
+const STDOUT_FILENO: i32 = 1;
 
 fn main() {
     divisor(BaudRateDivisor::_2);

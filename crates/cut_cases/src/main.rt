@@ -15,9 +15,11 @@
 // 0 is also the number of an input of 32,768 bytes or more. The stored list ends in a short row. Input and
 // output are made by `tools/cut_cases`: a simulated flash gave the replies, and an observer of its own has
 // what the program must print.
+#![tactic(auto)]
+
 ghost use Rattle.std.specs.Prelude.{◌≤◌, length};
 
-use libc::STDIN_FILENO;
+use printing::STDIN_FILENO;
 
 mod print;
 mod record;

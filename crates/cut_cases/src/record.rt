@@ -9,7 +9,7 @@ const HEADER: usize = 10;
 // Replies of a call at most.
 pub const REPLIES: usize = 1024;
 
-#[derive(Drop)]
+#[derive(Clone, Copy)]
 pub struct Call {
     pub address: u32,
     pub length: usize,

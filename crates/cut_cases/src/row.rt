@@ -5,7 +5,7 @@ use qspi_script::Status;
 
 // A row as far as it is made: the bytes read of it, the calls made, and the words of the log that they used;
 // of the last call its answer, its count, and whether 23 or 24 ended it.
-#[derive(Drop)]
+#[derive(Clone, Copy)]
 pub struct Progress {
     pub read: usize,
     pub calls: usize,

@@ -26,7 +26,7 @@ pub const BUSY: u32 = 256;
 pub const LIST_MISSING: u32 = 257;
 
 // How a call ended.
-#[derive(Drop)]
+#[derive(Clone, Copy)]
 pub struct Ended {
     pub answer: u32,
     pub used: usize,

@@ -11,7 +11,7 @@ const CONFIG: u32 = 0x8008_C4C1;
 const RECEIVED: u32 = 0x0000_00C3;
 
 // The TX words that were written since the last start, the RX words that wait, and the last reply.
-#[derive(Drop)]
+#[derive(Clone, Copy)]
 struct Device {
     config: u32,
     written: u32,

@@ -15,7 +15,7 @@ const REPLIES: usize = 4608;
 const THREE: [u32; 3] = [0x00FE_0000, 0x0000_0000, 0x0003_0000];
 
 // What a list is erased on: so many words of log, so many replies, and a status register at one of these.
-#[derive(Drop)]
+#[derive(Clone, Copy)]
 struct Bounds {
     log: usize,
     replies: usize,

@@ -2,6 +2,8 @@
 // the answer of each, the used counts, how far the call changed log and buffer, and the words that it sent,
 // read from its log.
 // The stored output is made by `tools/driver_cases`, which has the same cases from the paper.
+#![tactic(auto)]
+
 use crate::call::Ended;
 use crate::memory::LOG;
 use zynq7000::qspi;

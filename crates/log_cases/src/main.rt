@@ -1,7 +1,10 @@
 // The text of small logs, swept over each border of rule 13, of the record numbers and of a buffer,
 // the entries of a log by place, and the number of accesses that lead one.
+#![tactic(auto)]
+
 use access_log::Entry;
-use libc::STDOUT_FILENO;
+
+const STDOUT_FILENO: i32 = 1;
 
 // Three records: a write, a read, and a last one whose first word is no offset.
 const LOG: [u8; 24] = [

@@ -1,6 +1,8 @@
 // What a log of the flash path shows by itself: the chunks that `write_pages` finished, and those in
 // doubt. Document 01, "The flash, as defined here". The log alone is read, so that whoever finds one
 // after a power cut can tell what the flash holds.
+#![tactic(auto)]
+
 ghost use Rattle.std.specs.Prelude.{◌≡◌, ◌-◌};
 ghost use Rattle.log_observer.specs.Watching.{no_doubt, not_open, just_open, fresh, head_with, push, send_one, send_two, send_three, send_four, take_reply, is_program, is_status_read, is_clean, address_in, joined, commanded, raised, with_transfer, finish, closed, enabled, configured, wrote, has_read, watched, watch_of};
 
@@ -12,7 +14,7 @@ use zynq7000::{bits, qspi};
 // The chunks in doubt: the first of them by its place in the flash, or none; how many they are, and
 // their bytes (both modulo 2^32). Of a run of `write_pages` there is never a second one, nor of a row of
 // them while the flash reports no error.
-#[derive(Drop)]
+#[derive(Clone, Copy)]
 pub struct Doubt {
     pub there: bool,
     pub address: u32,
@@ -23,7 +25,7 @@ pub struct Doubt {
 
 // What lies between a write of 1 and a write of 0 to SPI enable: how many bytes were sent (modulo
 // 2^32), the first four of them with the first lowest, and the RX word read last.
-#[derive(Drop)]
+#[derive(Clone, Copy)]
 pub struct Transfer {
     pub active: bool,
     pub sent: u32,
@@ -33,7 +35,7 @@ pub struct Transfer {
 
 // What is seen so far: the transfer at hand; whether chip select is high; the chunks in doubt; how many
 // chunks are finished, and their bytes (both modulo 2^32).
-#[derive(Drop)]
+#[derive(Clone, Copy)]
 pub struct Watch {
     pub transfer: Transfer,
     pub up: bool,

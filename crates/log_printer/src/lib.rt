@@ -1,19 +1,21 @@
 // The log printer: standard input, a log of little-endian records, to lines on standard output.
 // What is printed of each buffer is `access_log::render`'s, and proved there.
+#![tactic(auto)]
+
 ghost use Rattle.std.specs.Prelude.{◌+◌, ◌≤◌, length};
 ghost use Rattle.io.specs.Counts.{IsPrefixLen};
 
 use libc::{STDIN_FILENO, STDOUT_FILENO};
 
 // What one read brought: no bytes at the end of the input, or where it failed.
-#[derive(Drop)]
+#[derive(Clone, Copy)]
 struct Got {
     count: usize,
     failed: bool,
 }
 
 // How far a buffer was filled.
-#[derive(Drop)]
+#[derive(Clone, Copy)]
 struct Filled {
     len: usize,
     // The input may go on: the buffer is full and no read failed.

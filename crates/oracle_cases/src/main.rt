@@ -20,14 +20,17 @@
 // nothing after it: the record is short, its kind unknown, a length past the limit, a reply past the
 // dictionary or a list past the body. 0 is also the number of a bad dictionary and of an input of 98,304
 // bytes or more. The stored list ends in a short record.
+#![tactic(auto)]
+
 ghost use Rattle.std.specs.Prelude.{◌≤◌, length};
 
-use libc::STDIN_FILENO;
 use record::{HEADER, Record};
 
 mod call;
 mod print;
 mod record;
+
+const STDIN_FILENO: i32 = 0;
 
 fn main() {
     let mut input = [0u8; 98304];

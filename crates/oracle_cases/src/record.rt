@@ -7,7 +7,7 @@ pub const HEADER: usize = 14;
 // The kind with a list of sectors, the last one.
 pub const SECTORS: u8 = 22;
 
-#[derive(Drop)]
+#[derive(Clone, Copy)]
 pub struct Record {
     pub kind: u8,
     pub flags: u8,

@@ -88,6 +88,7 @@ above_among a (c ∷ l) h here = h.0
 above_among a (b ∷ l) h (there m) = above_among a l h.1 m
 
 -- ---- what each chunk brought, by its addresses
+above_among a [] {c = c} h x'' = elim x'' [ ]
 
 -- a chunk that `program` accepts lands where it says
 lands_brought : (c : Chunk) (x : ℕ) → Fit c → lands c x ≡ brought c x
@@ -127,6 +128,7 @@ pub anding_in : (l : List Chunk) {c : Chunk} (i v : ℕ) → Ordered l → Among
 unfolding anding
 anding_in (c ∷ l) i v o here h = rw (brought_in c i h) (anding_above l (c.address + length c.bytes) (c.address + i) (bit_and v (get_or c.bytes i 0)) o.0 (omega arith))
 anding_in (b ∷ l) {c} i v o (there n) h = rw (brought_out b (c.address + i) (inr (omega (arith, above_among (b.address + length b.bytes) l o.0 n)))) (anding_in l i v o.1 n h)
+anding_in [] {c = c} i v o x3 h = elim x3 [ ]
 
 pub anding_out : (l : List Chunk) (x v : ℕ) → ((c : Chunk) → Among c l → In x c → ⊥) → anding l x v ≡ v
 unfolding anding
@@ -186,3 +188,4 @@ ordered_seam (c ∷ k) d l h here = back (c.address + length c.bytes) k h.0
     back a [] h = h.0
     back a (b ∷ k) h = back a k h.1
 ordered_seam (b ∷ k) d l h (there m) = ordered_seam k d l h.1 m
+ordered_seam [] d l {c = c} h x'' = elim x'' [ ]

@@ -81,6 +81,7 @@ settles_idle settles = refl
 
 works_settles : {m : Array} {c : Chunk} {f g : Flash} → Works m c f → Settles f g → Works m c g
 works_settles under settles = past
+works_settles {m = m} {c = c} {g = g} past x3 = elim x3 [ ]
 
 settles_flash : (s : Stage) (b : Bool) (m : Array) (c : Chunk) {f g : Flash} → FlashAt s b m c f → Settles f g → FlashAt s b m c g
 settles_flash enables false m c y h = clash (settles_busy h) (calm_busy y)
@@ -274,3 +275,4 @@ module _ (early : List Chunk) (old : Array) where
 
   pub advance : (whole : List Chunk) {s : Driver} {d : Device} {a : Access} → Good whole s → OnDevice early old s d → Matches (want (state_of s)) a → Gives d a → OnDevice early old (driver_after s (value_word a)) (effect d a)
   advance whole q (during {s} {p} {taken} {c} {l} {k} {f} y h) m g = going-access whole s taken c l k f p q y h m g
+  advance whole q (ended {a = a} {l = l} {k = k} {c = c} {w = w} {r = r} {f = f} _ _ _) m g = elim m [ ]

@@ -14,6 +14,8 @@ use Rattle.power_cut.proofs.Lands.{Ordered, anding_in, anding_out, chunks_ordere
 -- the chunk in doubt holds no byte of a finished one
 apart : {q : List Chunk} (k l : List Chunk) → NextOnly q l → Ordered (k ++ l) → {b : Chunk} → Among b k → (i : ℕ) → i < length b.bytes → (d : Chunk) → Among d q → In (b.address + i) d → ⊥
 apart k l (the_next {c} {left} y z) o m i h d here n = omega (arith, ordered_seam k c left o m, n.0)
+apart k l Rattle.power_cut.specs.Statement.no_doubt o {b = b} m i h d x16 n = elim x16 [ ]
+apart k _ (the_next {c = c} {left = left} y z) o {b = b} m i h d (Rattle.qspi_calls.specs.Chunks.there x24) n = elim x24 [ ]
 
 record Alone (c : Save) (k d : List Chunk) : Type 0 where
   left : List Chunk

@@ -91,6 +91,9 @@ covers (suc f) a (b ∷ bs) (c ∷ k) l e x (there m) h =
     let n : length c.bytes ≡ length (take 128 (b ∷ bs)) = ap (λ (z : Chunk). length z.bytes) (head-eq_of_cons-eq e) in
     let t = total_front f (a + 128) (drop 128 (b ∷ bs)) k l (tail-eq_of_cons-eq e) in
     (omega (arith, r.0), omega (arith, r.0, r.1, n, t, length-take 128 (b ∷ bs), length-drop 128 (b ∷ bs)))
+covers zero a bs [] l e {c = c} x m h = elim m [ ]
+covers (suc f) a [] [] l e {c = c} x m h = elim m [ ]
+covers (suc f) a (b ∷ bs) [] l e {c = c} x m h = elim m [ ]
 
 -- there is a byte for each chunk
 some_byte : (f a : ℕ) (bs : List ℕ) (k : List Chunk) (c : Chunk) (l : List Chunk) → k ++ c ∷ l ≡ chunks_in f a bs → 0 < length bs
@@ -132,6 +135,8 @@ pub record Plain (a : ℕ) (bs : List ℕ) (old new : Array) (n : ℕ) (doubt : 
 
 doubt_next : (f a : ℕ) (bs : List ℕ) (k l : List Chunk) {q : List Chunk} → k ++ l ≡ chunks_in f a bs → NextOnly q l → (c : Chunk) → Among c q → c ≡ record { address = a + total k; bytes = take 128 (drop (total k) bs) }
 doubt_next f a bs k l e (the_next {left = left} y z) c here = next_chunk_lem f a bs k c left e
+doubt_next f a bs k l e Rattle.power_cut.specs.Statement.no_doubt c x5 = elim x5 [ ]
+doubt_next f a bs k _ e (the_next {left = left} y z) c (there x10) = elim x10 [ ]
 
 pub plain : (c : Save) (old new : Array) (o : Observed) → KeptBy c old o new → Plain c.address c.bytes old new (total o.finished) o.doubt
 unfolding chunks

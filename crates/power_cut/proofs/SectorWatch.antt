@@ -112,6 +112,13 @@ module _ (x : machine.Transfer) (width : ℕ) (q₀ q₁ k : List ℕ) where
     watch-in leaving taken h a e s t m = absurd (true≢false e)
 
 -- ---- a stage of a sector
+    watch-in draining taken h (access.Write _ _) e s t m = elim m [ ]
+    watch-in opening taken h (access.Write _ _) e s t m = elim m [ ]
+    watch-in starting taken h (access.Write _ _) e s t m = elim m [ ]
+    watch-in (waiting n) taken h (access.Write _ _) e s t m = elim m [ ]
+    watch-in (again n) taken h (access.Write _ _) e s t m = elim m [ ]
+    watch-in (taking n) taken h (access.Write _ _) e s t m = elim m [ ]
+    watch-in closing taken h (access.Write _ _) e s t m = elim m [ ]
 
 -- "One-byte commands use 80; status and config reads .. use 84", erases use 1C
 abbrev pub width : Stage → ℕ

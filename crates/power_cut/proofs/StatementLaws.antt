@@ -96,6 +96,8 @@ at_most_one (the_next y z) = omega arith
 -- "at most 128 bytes within one page"
 pub doubt_in_a_page : {q l : List Chunk} {c : Chunk} → NextOnly q l → Among c q → (length c.bytes ≤ 128) × (c.address % 256 + length c.bytes ≤ 256)
 doubt_in_a_page (the_next y z) here = (y, z)
+doubt_in_a_page {l = l} {c = c} no_doubt x4 = elim x4 [ ]
+doubt_in_a_page (the_next {c = c} {left = left} y z) (Rattle.qspi_calls.specs.Chunks.there x8) = elim x8 [ ]
 
 pub one_over_all : {row : List Save} {k : ℕ} {f q : List Chunk} → CallByCall row k f q → length q ≤ 1
 one_over_all no_call = omega arith

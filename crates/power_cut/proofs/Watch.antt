@@ -270,6 +270,10 @@ module _ (early : List Chunk) where
   watch_at whole s closing taken c l k h a g m_read = refl
   watch_at whole s (raising w) taken c l k h a g m_write = rw (high_put w, ends_with h s c (newest taken) g.fits)
   watch_at whole s leaving taken c l k h a g m_write = closing_view s taken c l k h g.fits g.count
+  watch_at whole s draining taken c l k h (access.Write _ _) g x6 = elim x6 [ ]
+  watch_at whole s (waiting n) taken c l k h (access.Write _ _) g x6 = elim x6 [ ]
+  watch_at whole s (again n) taken c l k h (access.Write _ _) g x7 = elim x7 [ ]
+  watch_at whole s (taking n) taken c l k h (access.Write _ _) g x8 = elim x8 [ ]
 
   pub watch : (whole : List Chunk) (d : Driver) (h : Bool) (a : Access) → Good whole d → Matches (want (state_of d)) a → see (view d h) a ≡ view (driver_after d (value_word a)) (level_after d (value_word a) h)
   watch whole (at s p taken c l k) h a g m = watch_at whole s p taken c l k h a g m

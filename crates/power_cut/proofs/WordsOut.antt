@@ -109,9 +109,11 @@ module _ {x : Transfer} {taken : List ℕ} (brings : List ℕ → List ℕ) {k :
 
 advance : {s : State} {d : Device} {a : Access} → Stands s d → Matches (want s) a → Gives d a → Stands (next s (value_word a)) (effect d a)
 advance (during {p = p} {brings = brings} {bs = bs} {n = n} y q h) m g = goes brings bs n y q (next_of p) h m g
+advance {d = d} (over {a = a} {vs = vs} {bs = bs} {n = n} _) m g = elim m [ ]
 
 none_left : {s : State} {d : Device} {a : Access} → Stands s d → Matches (want s) a → raises d a ≡ true → words_left d ≡ []
 none_left (during {x = x} {f = f} y q h) m r = none_at_rise Any y.width x f y.port_is h m r
+none_left {d = d} (over {a = a} {vs = vs} {bs = bs} {n = n} _) m r = elim m [ ]
 
 -- where nothing is due, the controller is at rest
 at_the_end : {s : State} {d : Device} → Stands s d → want s ≡ nothing → AtRest d

@@ -1,6 +1,8 @@
 // `write_pages` and `erase_sectors` from their start to their end: data or list are lent once, and one
 // operation is stepped over replies and a log. The contract of `write_pages` states what a power cut can
 // leave in the flash, that of `erase_sectors` which sectors its log shows finished.
+#![tactic(auto)]
+
 ghost use Rattle.std.specs.Prelude.{◌≡◌, ◌/◌, min, length};
 ghost use Rattle.zedboard_bsp.specs.Limits.{longest_list};
 ghost use Rattle.qspi_script.specs.Answer.{values_in};
@@ -17,7 +19,7 @@ use qspi_calls::{run, sectors, start};
 use zedboard_bsp::qspi_spansion::LONGEST_LIST;
 
 // How it ended, the used counts, and the bytes of the chunks that ended clean.
-#[derive(Drop)]
+#[derive(Clone, Copy)]
 pub struct PagesRan {
     pub ran: Ran,
     pub programmed: usize,
@@ -38,7 +40,7 @@ pub fn write_pages(addr: u32, data: &[u8], replies: &[u32], log: &mut [u32]) -> 
 
 // How it ended, the used counts, the sectors that ended clean, and the place of the entry that the list was
 // refused for: 0 where it was refused for none.
-#[derive(Drop)]
+#[derive(Clone, Copy)]
 pub struct SectorsRan {
     pub ran: Ran,
     pub finished: usize,

@@ -1,5 +1,10 @@
 // Pieces of lines on standard output, for the programs. Hex is upper case, as in document 01.
-use libc::STDOUT_FILENO;
+#![tactic(auto)]
+
+// The descriptors of standard input and output.
+pub const STDIN_FILENO: i32 = 0;
+
+pub const STDOUT_FILENO: i32 = 1;
 
 pub fn text(bytes: &[u8]) {
     io::write_all(STDOUT_FILENO, bytes);

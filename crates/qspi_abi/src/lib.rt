@@ -1,6 +1,8 @@
 // The driver as a static library, for programs in C and Rust: numbers and slices in, a struct of numbers
 // out. `include/qspi.h` declares these functions and says what the numbers are. Each runs one call from
 // its start to its end over the replies and the log lent; any input gets an answer.
+#![tactic(auto)]
+
 ghost use Rattle.std.specs.Prelude.{◌≡◌, true, false, ℕ, ◌/◌, length, List, []};
 ghost use Rattle.zynq7000_hal.specs.Clocks.{answer_of, calculate_answer, loopback_answer};
 ghost use Rattle.zynq7000_hal.specs.declared.qspi.ClockCalculation.TheVariants as calculation;
@@ -35,7 +37,7 @@ use zynq7000_hal::qspi::{ClockCalculation, ClockConfig, QspiDeviceCombination};
 mod codes;
 
 #[repr(C)]
-#[derive(Drop)]
+#[derive(Clone, Copy)]
 pub struct QspiRan {
     pub answer: u32,
     pub used: usize,
@@ -43,7 +45,7 @@ pub struct QspiRan {
 }
 
 #[repr(C)]
-#[derive(Drop)]
+#[derive(Clone, Copy)]
 pub struct QspiPagesRan {
     pub answer: u32,
     pub programmed: usize,
@@ -52,7 +54,7 @@ pub struct QspiPagesRan {
 }
 
 #[repr(C)]
-#[derive(Drop)]
+#[derive(Clone, Copy)]
 pub struct QspiSectorsRan {
     pub answer: u32,
     pub place: u32,
@@ -62,7 +64,7 @@ pub struct QspiSectorsRan {
 }
 
 #[repr(C)]
-#[derive(Drop)]
+#[derive(Clone, Copy)]
 pub struct QspiValueRan {
     pub answer: u32,
     pub value: u32,
@@ -71,7 +73,7 @@ pub struct QspiValueRan {
 }
 
 #[repr(C)]
-#[derive(Drop)]
+#[derive(Clone, Copy)]
 pub struct QspiIdRan {
     pub answer: u32,
     pub manufacturer_id: u32,
@@ -83,7 +85,7 @@ pub struct QspiIdRan {
 }
 
 #[repr(C)]
-#[derive(Drop)]
+#[derive(Clone, Copy)]
 pub struct QspiLongIdRan {
     pub answer: u32,
     pub manufacturer_id: u32,
@@ -100,7 +102,7 @@ pub struct QspiLongIdRan {
 }
 
 #[repr(C)]
-#[derive(Drop)]
+#[derive(Clone, Copy)]
 pub struct QspiClockConfig {
     pub answer: u32,
     pub src_sel: u32,
@@ -110,7 +112,7 @@ pub struct QspiClockConfig {
 }
 
 #[repr(C)]
-#[derive(Drop)]
+#[derive(Clone, Copy)]
 pub struct QspiPreset {
     pub answer: u32,
     pub value: u32,

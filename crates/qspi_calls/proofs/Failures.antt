@@ -508,6 +508,7 @@ module _ (room : ℕ) (replies : List ℕ) where
         to : PagesEnd (chunks a bs) (log_of save) ProgrammingErrorBitSet
             → (c : Chunk) × (Accepted c × ((front : List Access) × ((tail : List Access) × ((log_of save ≡ front ++ tail) × (ComesTo a bs c front × Fails 6 (programming c.address c.bytes) tail)))))
         to (all_done f e) = absurd (let z : ◌≡◌ {A = ℕ} 0 22 = ap number_of e in omega (arith, z))
+        to (refused_at before c behind _ _ x) = elim x [ ]
         to (failed_at before c behind is front tail l f h g e) = (c, (h, (front, (tail, (l, (record { before = before; behind = behind; is = is; finished = f }, g))))))
 
         from : a + length bs ≤ 16777215 → (c : Chunk) → Accepted c → (front tail : List Access) → log_of save ≡ front ++ tail → ComesTo a bs c front → Fails 6 (programming c.address c.bytes) tail → Answers save ProgrammingErrorBitSet
@@ -524,6 +525,7 @@ module _ (room : ℕ) (replies : List ℕ) where
       where
         to : PagesEnd (chunks a bs) (log_of save) Done → Finished (chunks a bs) (log_of save)
         to (all_done f e) = f
+        to (refused_at before c behind _ _ x) = elim x [ ]
         to (failed_at before c behind is front tail l f h g e) = absurd (let z : ◌≡◌ {A = ℕ} 22 0 = ap number_of e in omega (arith, z))
 
     -- after 22 the log ends with clear status and write disable
@@ -532,6 +534,7 @@ module _ (room : ℕ) (replies : List ℕ) where
       where
         go : PagesEnd (chunks a bs) (log_of save) ProgrammingErrorBitSet → (front : List Access) × Disarmed front (log_of save)
         go (all_done f e) = absurd (let z : ◌≡◌ {A = ℕ} 0 22 = ap number_of e in omega (arith, z))
+        go (refused_at before c behind _ _ x) = elim x [ ]
         go (failed_at before c behind is front tail l f h g e) =
             let d = g.disarmed in (
               front ++ g.front,

@@ -45,13 +45,13 @@ plays_then (plays_write e p) q = plays_write e (plays_then p q)
 plays_run : {s t : State} (l : List Access) (m : ℕ) (rest : List ℕ) → Plays s l t → ((runs (length l + m) s (replies_of l ++ rest)).log ≡ l ++ (runs m t rest).log) × ((runs (length l + m) s (replies_of l ++ rest)).answer ≡ (runs m t rest).answer)
 unfolding runs
 plays_run [] m rest plays_none = let e : 0 + m ≡ m = omega arith in rw e (refl, refl)
-plays_run (Read o v ∷ l) m rest (plays_read e p) =
+plays_run {s = s} (Read o v ∷ l) m rest (plays_read e p) =
     let n : suc (length l) + m ≡ suc (length l + m) = omega arith in
-    let h = plays_run l m rest p in
+    let h = plays_run {s = next s v} l m rest p in
     rw (n, e) (ap (λ (z : List Access). Read o v ∷ z) h.0, h.1)
-plays_run (Write o v ∷ l) m rest (plays_write e p) =
+plays_run {s = s} (Write o v ∷ l) m rest (plays_write e p) =
     let n : suc (length l) + m ≡ suc (length l + m) = omega arith in
-    let h = plays_run l m rest p in
+    let h = plays_run {s = next s v} l m rest p in
     rw (n, e) (ap (λ (z : List Access). Write o v ∷ z) h.0, h.1)
 
 module _ (a : Prompt) (brings : List ℕ → List ℕ) (k : List ℕ → Script) (bs : List ℕ) (n : ℕ) where

@@ -1,6 +1,6 @@
 -- Every access of every call goes to a register of the controller, so a log can hold it: a run reads only 00, 04 and 20, and the script of
 -- each call writes only to registers. Assumes nothing.
-use mathlib.Core.Path.{◌≡◌, refl}
+use mathlib.Core.Path.{◌≡◌, refl, sym, subst}
 use mathlib.Core.Bool.{Bool, true, false, ◌||◌}
 use mathlib.Core.List.{List, [], ◌∷◌, ◌++◌, map, reverse}
 use Prim.Native.Nat.{ℕ, zero, suc, ◌+◌, ◌%◌, min}
@@ -14,6 +14,7 @@ use Rattle.zynq7000.specs.declared.qspi.Register.TheVariants as register
 use Rattle.zynq7000.proofs.AccessLaws.{register_aligned}
 use Rattle.zynq7000_hal.specs.Initialize.{loopback_words}
 use Rattle.zynq7000_hal.specs.declared.qspi.ClockConfig.{ClockConfig}
+use Rattle.qspi_transfer.specs.LowLevel.{chip_select_low}
 use Rattle.zedboard_bsp.specs.Registers.{update_needed}
 use Rattle.zedboard_bsp.specs.Limits.{largest_chunk}
 use Rattle.qspi_script.specs.declared.Status.{Status}
@@ -21,7 +22,7 @@ use Rattle.qspi_calls.specs.declared.start.Config.{Config}
 use Rattle.qspi_calls.specs.declared.start.Latency.{Latency}
 use Rattle.qspi_calls.specs.declared.start.Latency.TheVariants.{AsRead, Code}
 use Rattle.qspi_calls.specs.Chunks.{Chunk, chunks}
-use Rattle.qspi_operation.specs.Machine.{Action, write, modify, drain, reply, Midway, first, full, changed, again, ready, Want, reads, writes, nothing, want_at, Progress, stays, over, takes, progress, Transfer, replicate, opening, Script, ends, perform, repeats, counts, exchange, State, going, ended, onward, begin, proceed, moves, want, next, Result, no_room, made, runs, called}
+use Rattle.qspi_operation.specs.Machine.{Action, write, modify, drain, reply, Midway, first, full, changed, again, ready, Want, reads, writes, nothing, want_at, Progress, stays, over, takes, progress, Transfer, replicate, replying, opening, Script, ends, perform, repeats, counts, exchange, State, going, ended, onward, begin, proceed, moves, want, next, Result, no_room, made, runs, called}
 use Rattle.qspi_calls.specs.Calls as call
 
 -- ---- scripts whose writes go to registers
@@ -134,7 +135,8 @@ opens : (r : Register) (x : Transfer) → x.port ≡ offset_of r → ToRegisters
 opens r x e =
     let closes = to_more to_modify (to_more (to_write register.SpiEnable) to_none) in
     let starts = to_more to_modify (joined (takes_replies x.replies x.twice) closes) in
-    rw e (to_more to_modify (to_more (to_write register.SpiEnable) (joined (sends r (x.command ∷ x.further)) starts)))
+    let P : ℕ → Type 0 = λ p. ToRegisters (modify chip_select_low ∷ write 0x14 1 ∷ map (write p) (x.command ∷ x.further) ++ replying x) in
+    subst P (sym e) (to_more to_modify (to_more (to_write register.SpiEnable) (joined (sends r (x.command ∷ x.further)) starts)))
 
 exchanges : (r : Register) (x : Transfer) → x.port ≡ offset_of r → {k : List ℕ → Script} → ((rs : List ℕ) → OnRegisters (k rs)) → OnRegisters (exchange x k)
 exchanges r x e h = on_perform to_drain (opens r x e) h

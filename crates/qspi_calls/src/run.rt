@@ -10,7 +10,7 @@ use qspi_script::{Gives, Status};
 use zedboard_bsp::qspi_spansion::words;
 
 // How a call ended, and the used counts: log words and replies.
-#[derive(Drop)]
+#[derive(Clone, Copy)]
 pub struct Ran {
     pub answer: Status,
     pub used: usize,

@@ -21,13 +21,13 @@ use zedboard_bsp::qspi_spansion::limits;
 use zynq7000_hal::qspi::{BaudRateConfig, ClockConfig, Initialization};
 
 // What the status and configuration registers are to be set to by `new`.
-#[derive(Drop)]
+#[derive(Clone, Copy)]
 pub enum Latency {
     AsRead,
     Code(u8),
 }
 
-#[derive(Drop)]
+#[derive(Clone, Copy)]
 pub struct Config {
     pub set_quad_bit_if_necessary: bool,
     pub latency_config: Latency,

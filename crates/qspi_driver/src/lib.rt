@@ -1,5 +1,7 @@
 // The outer layer: one small driver state, lent by `&mut` to each start and step and updated. A method
 // takes it apart and calls the covered function of `state`; `drive` runs a whole call by the same ones.
+#![tactic(auto)]
+
 ghost use Rattle.std.specs.Prelude.{◌≡◌, true, false, length};
 ghost use Rattle.qspi_operation.specs.Step.{is_going, due_of, log_of, buffer_of};
 ghost use Rattle.qspi_operation.specs.Follows.{DueFollows};
@@ -98,7 +100,7 @@ impl QspiSpansionS25Fl256SIoMode {
 }
 
 // The driver after a whole call, and what the call answered.
-#[derive(Drop)]
+#[derive(Clone, Copy)]
 pub struct Driven {
     pub driver: QspiSpansionS25Fl256SIoMode,
     pub answer: Answer,

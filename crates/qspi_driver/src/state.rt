@@ -17,7 +17,7 @@ use zedboard_bsp::qspi_spansion::device_id::{BaseDeviceId, ExtendedDeviceId};
 use zedboard_bsp::qspi_spansion::words;
 
 // What the driver knows between two accesses: the operation at hand.
-#[derive(Drop)]
+#[derive(Clone, Copy)]
 pub struct State {
     pub op: Op,
 }
@@ -29,7 +29,7 @@ pub struct SectorList {
 }
 
 // What a start or a step answers.
-#[derive(Drop)]
+#[derive(Clone, Copy)]
 pub enum Answer {
     // The status of the operation at hand.
     Given(Status),
@@ -53,14 +53,14 @@ impl Answer {
 }
 
 // The state after a start or a step, and its answer.
-#[derive(Drop)]
+#[derive(Clone, Copy)]
 pub struct Acted {
     pub state: State,
     pub answer: Answer,
 }
 
 // The same after a start of a list, with the list that is kept.
-#[derive(Drop)]
+#[derive(Clone, Copy)]
 pub struct ListActed {
     pub state: State,
     pub list: SectorList,
@@ -70,7 +70,7 @@ pub struct ListActed {
 // The answer so far: status, used counts (log words, replies), what it counts (bytes programmed by
 // `write_pages`, sectors finished of a list), and of an answer with values what it gives: the SLCR clock
 // word, the place of an entry, and the last three replies, of which a register's byte or an id is made.
-#[derive(Drop)]
+#[derive(Clone, Copy)]
 pub struct Progress {
     pub status: Status,
     pub used: usize,

@@ -189,6 +189,7 @@ module _ (rs : List ℕ) where
 
   module _ (x : Access) (head : List Access) (lasts : Last head) (m : Midway) (a : Action) where
     last_then : (l : List Action) (taken : List ℕ) → Closes l → Makes (proceed l taken none gives [] 0) head → after (proceed l taken none gives [] 0) head ≡ ended Done rs [] 0 → EndsClosed (x ∷ head)
+    last_then [] taken h u v = elim h [ ]
     last_then (c ∷ l) taken h u v = one_before x (lasts first c l taken (closing_next h) u v)
 
     last-by : (l : List Action) (taken : List ℕ) → Closes l → (g : Progress) → Makes (moves g a l taken none gives [] 0) head → after (moves g a l taken none gives [] 0) head ≡ ended Done rs [] 0 → EndsClosed (x ∷ head)

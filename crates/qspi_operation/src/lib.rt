@@ -1,5 +1,7 @@
 // An operation as a state by value: the access that is due, the step that makes and logs it, and a run
 // over replies and a log. Document 01, "What changes shape" and "What the state can bring on".
+#![tactic(auto)]
+
 ghost use Rattle.std.specs.Prelude.{◌≡◌, ◌+◌, ◌≤◌, length, nat_le};
 ghost use Rattle.qspi_transfer.specs.Wire.{fresh_wire, pick_wire, wire_next};
 ghost use Rattle.qspi_transfer.specs.declared.Phase.TheVariants.{DrainStatus};
@@ -18,7 +20,7 @@ use zynq7000::{bits, qspi};
 pub mod store;
 
 // The call, where it stands, the used counts (log words, replies), and its answer so far.
-#[derive(Drop)]
+#[derive(Clone, Copy)]
 pub struct Op {
     pub job: Job,
     pub place: Place,
@@ -29,14 +31,14 @@ pub struct Op {
 }
 
 // A step is handed one reply or none.
-#[derive(Drop)]
+#[derive(Clone, Copy)]
 pub enum Reply {
     Word(u32),
     Nothing,
 }
 
 // The access due, asked for without effect; nothing where the operation has ended.
-#[derive(Drop)]
+#[derive(Clone, Copy)]
 pub enum Asked {
     Read(u8),
     Write(u8, u32),
@@ -59,14 +61,14 @@ impl Asked {
 }
 
 // The operation after a step, and what the step answers.
-#[derive(Drop)]
+#[derive(Clone, Copy)]
 pub struct Stepped {
     pub op: Op,
     pub answer: Status,
 }
 
 // What a step does: nothing, or one access, as its two log words and whether it used a reply.
-#[derive(Drop)]
+#[derive(Clone, Copy)]
 pub enum Verdict {
     Ended,
     Changed,
@@ -76,7 +78,7 @@ pub enum Verdict {
 }
 
 // How a pass of a run's loop ended: the transfer goes on, it is over, or no access was made.
-#[derive(Drop)]
+#[derive(Clone, Copy)]
 enum How {
     On,
     Over,
@@ -86,7 +88,7 @@ enum How {
 }
 
 // What a pass leaves of the transfer at hand, and the used counts.
-#[derive(Drop)]
+#[derive(Clone, Copy)]
 struct Passed {
     wire: Wire,
     used: usize,

@@ -1,5 +1,7 @@
 // Which transfer comes next: the calls of the flash chip as a script of stages, after the functions of
 // the Rust file `zedboard-bsp/src/qspi_spansion.rs`. A stage is one transfer.
+#![tactic(auto)]
+
 ghost use Rattle.std.specs.Prelude.{◌≡◌, ◌≤◌, []};
 ghost use Rattle.qspi_script.specs.Answer.{said_by, number_in, or_else};
 ghost use Rattle.qspi_script.specs.Stages.{one_word, data_frame, read_words, read_frame, program_frame, registers_frame, frame_of, chunk_address, read_word, listed_sector, sector_address, first_word, data_word, further_word, due_word};
@@ -13,7 +15,7 @@ use zynq7000_hal::qspi::prefill;
 
 // What a transfer is for. `Poll` reads the status after program or erase; `Registers` sends nothing;
 // `End` is no transfer.
-#[derive(Drop)]
+#[derive(Clone, Copy)]
 pub enum Stage {
     Enable,
     Disable,
@@ -34,7 +36,7 @@ pub enum Stage {
 
 // How a call stands: going on, done, or ended by a refusal of the papers. `LentLengthChanged` is
 // answered by a step and ends nothing.
-#[derive(Drop)]
+#[derive(Clone, Copy)]
 pub enum Status {
     Going,
     Done,
@@ -55,7 +57,7 @@ pub enum Status {
 }
 
 // The papers' number of an answer, where it has one: a call that goes on has none.
-#[derive(Drop)]
+#[derive(Clone, Copy)]
 pub enum Number {
     Of(u32),
     Without,
@@ -99,7 +101,7 @@ impl Status {
 }
 
 // What status and config are read for: the answer, `new`, or `set_write_protection`.
-#[derive(Drop)]
+#[derive(Clone, Copy)]
 pub enum Purpose {
     Answer,
     Configure,
@@ -109,7 +111,7 @@ pub enum Purpose {
 // What a call gives beside its counts. One that is done gives nothing, the byte of a register, an id of
 // one reply or of three, or the SLCR clock word; a list of sectors that is refused for an entry gives the
 // entry's place.
-#[derive(Drop)]
+#[derive(Clone, Copy)]
 pub enum Gives {
     Nothing,
     Register,
@@ -121,7 +123,7 @@ pub enum Gives {
 
 // What comes once program or erase has ended clean: the end, the next chunk of `write_pages`, or the next
 // sector of a list.
-#[derive(Drop)]
+#[derive(Clone, Copy)]
 pub enum Sequel {
     Once,
     Pages,
@@ -129,7 +131,7 @@ pub enum Sequel {
 }
 
 // What comes after what, where calls differ. `erasing` picks the error bit.
-#[derive(Drop)]
+#[derive(Clone, Copy)]
 pub struct Script {
     pub after_enable: Stage,
     pub after_clear: Stage,
@@ -141,7 +143,7 @@ pub struct Script {
 }
 
 // The lengths of the memory that the call was lent at its start.
-#[derive(Drop)]
+#[derive(Clone, Copy)]
 pub struct Lent {
     pub data: usize,
     pub buffer: usize,
@@ -149,7 +151,7 @@ pub struct Lent {
 }
 
 // What `new` and `set_write_protection` are asked for.
-#[derive(Drop)]
+#[derive(Clone, Copy)]
 pub struct Wanted {
     pub quad: bool,
     pub set_latency: bool,
@@ -159,14 +161,14 @@ pub struct Wanted {
 }
 
 // A read: the fast command, and a dummy byte before the data.
-#[derive(Drop)]
+#[derive(Clone, Copy)]
 pub struct Reading {
     pub fast: bool,
     pub dummy: bool,
 }
 
 // A call that sends nothing, the word that it writes, and the SLCR clock word that `initialize` gives.
-#[derive(Drop)]
+#[derive(Clone, Copy)]
 pub struct LowLevel {
     pub sequence: Sequence,
     pub word: u32,
@@ -174,7 +176,7 @@ pub struct LowLevel {
 }
 
 // A call as it was asked for; steps do not change it.
-#[derive(Drop)]
+#[derive(Clone, Copy)]
 pub struct Job {
     pub lent: Lent,
     pub script: Script,
@@ -186,7 +188,7 @@ pub struct Job {
 
 // Where a call stands: its stage, the bytes done (of a list, the sectors), the bytes of the chunk at hand,
 // and the two register bytes at hand.
-#[derive(Drop)]
+#[derive(Clone, Copy)]
 pub struct Place {
     pub stage: Stage,
     pub done: usize,
@@ -195,7 +197,7 @@ pub struct Place {
     pub cr: u8,
 }
 
-#[derive(Drop)]
+#[derive(Clone, Copy)]
 pub struct Turned {
     pub place: Place,
     pub status: Status,

@@ -1,5 +1,7 @@
 // Runs a call of the flash driver, or a row of them, against a simulated controller and flash: requests on
 // standard input, the logs and what the flash then holds on standard output (crates/sim_console).
+#![tactic(auto)]
+
 fn main() {
     sim_console::simulate_input();
 }

@@ -1,6 +1,8 @@
 // Where one transfer of the QSPI controller stands, after the transfer guard of the Rust file
 // `zynq7000-hal/src/qspi/mod.rs`: the phase, and what comes after each access. Document 01, "One
 // transfer, access by access".
+#![tactic(auto)]
+
 ghost use Rattle.std.specs.Prelude.{◌≡◌, nat_lt};
 ghost use Rattle.zynq7000.specs.Bits.{is_set};
 ghost use Rattle.zynq7000.specs.Qspi.{rx_above_threshold};
@@ -11,7 +13,7 @@ use zynq7000::qspi::InterruptStatus;
 pub mod low_level;
 
 // The access that is due: a read of a register, or a write of a value to it.
-#[derive(Drop)]
+#[derive(Clone, Copy)]
 pub enum Due {
     Read(u8),
     Write(u8, u32),
@@ -19,7 +21,7 @@ pub enum Due {
 
 // What is due: a register access of the transfer, by its place in it. `Registers` is an access of a
 // call that writes registers and sends nothing.
-#[derive(Drop)]
+#[derive(Clone, Copy)]
 pub enum Phase {
     DrainStatus,
     DrainData,
@@ -41,7 +43,7 @@ pub enum Phase {
 // The size of a transfer: its TX register, how many words follow the first, how many bytes of replies
 // are taken, and whether a reply is taken after two status reads in a row. For `Registers`, `words` is
 // how many accesses follow the first.
-#[derive(Drop)]
+#[derive(Clone, Copy)]
 pub struct Frame {
     pub port: u8,
     pub words: u32,
@@ -51,7 +53,7 @@ pub struct Frame {
 
 // Where a transfer stands: the config word last read, the words sent, the bytes of replies taken, and
 // the last three replies.
-#[derive(Drop)]
+#[derive(Clone, Copy)]
 pub struct Wire {
     pub phase: Phase,
     pub config: u32,
@@ -63,7 +65,7 @@ pub struct Wire {
 }
 
 // A transfer goes on, or this was its last access.
-#[derive(Drop)]
+#[derive(Clone, Copy)]
 pub enum Moved {
     On(Wire),
     Over,

@@ -6,7 +6,7 @@ use crate::Due;
 use zynq7000::qspi::{Config, LoopbackMasterClockDelay};
 use zynq7000::{bits, qspi};
 
-#[derive(Drop)]
+#[derive(Clone, Copy)]
 pub enum Sequence {
     Initialize,
     InitializeWithLoopback,

@@ -1,11 +1,12 @@
 // What the flash chip's leaf functions answer: every byte as an id's code and as a register,
 // the words of commands, and an id from its replies.
-use libc::STDOUT_FILENO;
 use zedboard_bsp::qspi_spansion::device_id::{
     BaseDeviceId, Density, DensityCode, ExtendedDeviceId, MemoryInterfaceType,
     MemoryInterfaceTypeCode, SectorArchictecture, SectorArchictectureCode,
 };
 use zedboard_bsp::qspi_spansion::{RegisterId, registers, words};
+
+const STDOUT_FILENO: i32 = 1;
 
 pub fn answers() {
     let mut i: u32 = 0;

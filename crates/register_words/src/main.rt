@@ -1,7 +1,8 @@
 // Prints the register map and the words that need no operation: offsets, fields and commands, all 24
 // presets, the linear words of I/O mode, and the words of `initialize`; then what the flash chip's functions
 // answer (`chip`).
-use libc::STDOUT_FILENO;
+#![tactic(auto)]
+
 use zedboard_bsp::qspi_spansion::{
     ConfigRegister1, QSPI_DEV_COMBINATION_REV_F, RegisterId, StatusRegister1,
 };
@@ -16,6 +17,8 @@ use zynq7000_hal::qspi::{
 };
 
 mod chip;
+
+const STDOUT_FILENO: i32 = 1;
 
 fn main() {
     registers();

@@ -1,11 +1,13 @@
 // Calls of the driver against the simulated controller and flash, as a row of requests on standard input
 // says (`request`): they are run (`row`) and printed (`report`), or the one line is that says what is wrong
 // (`fault`).
+#![tactic(auto)]
+
 use crate::items::MOST_BYTES;
 use crate::lent::LONG_PART;
 use crate::report::Shows;
 use crate::words::least;
-use libc::STDIN_FILENO;
+use printing::STDIN_FILENO;
 use sim_report::NEVER;
 
 mod calls;

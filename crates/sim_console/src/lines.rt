@@ -10,7 +10,7 @@ const LONGEST: usize = 1024;
 // No memory reaches as far.
 const FAR_OUTSIDE: usize = 0x1_0000_0000;
 
-#[derive(Drop)]
+#[derive(Clone, Copy)]
 enum Value {
     Is(usize),
     Bad(usize),

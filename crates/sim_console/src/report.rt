@@ -4,7 +4,7 @@ use crate::{items, lent, request, row, sectors};
 use sim_report::{Case, Ended, Shown, Spot};
 
 // What is printed of a row: nothing, its calls, or the line of a cut.
-#[derive(Drop)]
+#[derive(Clone, Copy)]
 pub enum Shows {
     Nothing,
     Calls,

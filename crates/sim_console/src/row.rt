@@ -12,7 +12,7 @@ use simulated_device::row::{Followed, Row};
 
 // How far a row came: where it stands, the number of the last call that was run, how that ended, and
 // whether a call behind it is not run.
-#[derive(Drop)]
+#[derive(Clone, Copy)]
 pub struct Came {
     pub row: Row,
     pub number: usize,
@@ -22,7 +22,7 @@ pub struct Came {
 }
 
 // What a call is run for: whether a request stands behind it, the cut point, and what is printed.
-#[derive(Drop)]
+#[derive(Clone, Copy)]
 pub struct Task {
     pub is_followed: bool,
     pub cut: usize,

@@ -2,6 +2,8 @@
 // `write_pages`; `finished` of this, `program` and `erase_sectors`; `in doubt` of these and
 // `erase_sector`; the sectors of a list; and the register, id or bytes of a read that is done. Of a row each
 // call has its number above it. The pages that changed come last. Of `cut all`, one line a cut.
+#![tactic(auto)]
+
 ghost use Rattle.std.specs.Prelude.{◌<◌, ◌≤◌};
 
 use printing::{decimal, entry, hex, text};
@@ -25,7 +27,7 @@ pub const NO_PLACE: usize = 256;
 
 // The call, by its place among `calls`; its address; where the part of the array begins that is lent; and
 // after how many accesses the power fails.
-#[derive(Drop)]
+#[derive(Clone, Copy)]
 pub struct Case {
     pub call: usize,
     pub address: u32,
@@ -40,7 +42,7 @@ pub struct Case {
 }
 
 // How a run ended, as far as it is printed.
-#[derive(Drop)]
+#[derive(Clone, Copy)]
 pub struct Ended {
     pub answer: Status,
     // The entry of a list that the answer is about.
@@ -61,7 +63,7 @@ pub struct Ended {
 }
 
 // A part of the flash, if there is one.
-#[derive(Drop)]
+#[derive(Clone, Copy)]
 pub struct Spot {
     pub there: bool,
     pub address: u32,
@@ -69,7 +71,7 @@ pub struct Spot {
 }
 
 // What the log shows: the chunks finished, their bytes, and where the flash may hold anything.
-#[derive(Drop)]
+#[derive(Clone, Copy)]
 pub struct Shown {
     pub finished: usize,
     pub bytes: usize,

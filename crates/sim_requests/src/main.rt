@@ -1,8 +1,12 @@
 // Inputs of `qspi_sim` one after the other, apart by lines of four dashes: each is run as that runs one,
 // under a line with its number.
+#![tactic(auto)]
+
 ghost use Rattle.std.specs.Prelude.{◌<◌, ◌≤◌, length};
 
-use libc::{STDIN_FILENO, STDOUT_FILENO};
+const STDIN_FILENO: i32 = 0;
+
+const STDOUT_FILENO: i32 = 1;
 
 fn main() {
     let mut input = [0u8; 32768];

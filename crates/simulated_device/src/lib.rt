@@ -1,6 +1,8 @@
 // A controller with the flash behind it, to run the driver against on any machine: one device of those
 // that document 01, "The flash, as defined here", allows. Its memory is lent: the bytes sent since chip
 // select fell, the RX words, and a part of the array, outside of which every byte is FF.
+#![tactic(auto)]
+
 ghost use Rattle.std.specs.Prelude.{◌≡◌, ◌<◌};
 ghost use Rattle.power_cut.specs.Controller.{high};
 ghost use Rattle.simulated_device.specs.Simulated.{no_words, nothing_received, at_rest, with_tx, with_rx, with_config, sim_of, passed, after_take, taken_from, interrupt_status, answered, read_of, accepted, refusal, configured, write_of};
@@ -17,7 +19,7 @@ pub mod work;
 
 // The device's choices: how many status reads show the work of a program or an erase, and how many
 // accesses lie between two words that go out. The array from an address on is lent.
-#[derive(Drop)]
+#[derive(Clone, Copy)]
 pub struct Choices {
     pub busy_reads: u32,
     pub gap: u32,
@@ -26,7 +28,7 @@ pub struct Choices {
 
 // The bytes written since chip select fell, the words that they came in, how many of these start
 // released, how many are out, and the accesses until the next one goes out.
-#[derive(Drop)]
+#[derive(Clone, Copy)]
 pub struct Tx {
     pub bytes: usize,
     pub written: usize,
@@ -36,20 +38,20 @@ pub struct Tx {
 }
 
 // The RX words that were put into the lent memory, and those of them that were read.
-#[derive(Drop)]
+#[derive(Clone, Copy)]
 pub struct Rx {
     pub put: usize,
     pub taken: usize,
 }
 
 // The write enable latch, and how many status reads still show that work goes on.
-#[derive(Drop)]
+#[derive(Clone, Copy)]
 pub struct Chip {
     pub latch: bool,
     pub busy: u32,
 }
 
-#[derive(Drop)]
+#[derive(Clone, Copy)]
 pub struct Device {
     pub config: u32,
     pub tx: Tx,
@@ -127,7 +129,7 @@ fn with_rx(d: Device, rx: Rx) -> Device
 
 // ---- reads
 
-#[derive(Drop)]
+#[derive(Clone, Copy)]
 pub struct Given {
     pub device: Device,
     pub value: u32,
@@ -211,7 +213,7 @@ pub fn read(d: Device, offset: u8, sent: &[u8], received: &mut [u32], array: &[u
 
 // ---- writes
 
-#[derive(Drop)]
+#[derive(Clone, Copy)]
 pub struct Written {
     pub device: Device,
     // What this device can not do: then the access is not made.

@@ -10,7 +10,7 @@ use qspi_script::Status;
 
 // Where a row stands: the device as the last call left it, the accesses until the power fails, and whether
 // it is over.
-#[derive(Drop)]
+#[derive(Clone, Copy)]
 pub struct Row {
     pub device: Device,
     pub left: usize,
@@ -18,7 +18,7 @@ pub struct Row {
 }
 
 // What a call of a row came to, and where the row then stands.
-#[derive(Drop)]
+#[derive(Clone, Copy)]
 pub struct Followed {
     pub ran: Ran,
     pub row: Row,

@@ -10,7 +10,7 @@ use qspi_operation::{Asked, Op, Reply};
 use qspi_script::Status;
 
 // Where a run stands: the operation and its answer, the device, and whether the device could not go on.
-#[derive(Drop)]
+#[derive(Clone, Copy)]
 pub struct Ran {
     pub op: Op,
     pub answer: Status,
@@ -19,7 +19,7 @@ pub struct Ran {
 }
 
 // What the device has for the access that is due.
-#[derive(Drop)]
+#[derive(Clone, Copy)]
 pub struct Met {
     pub device: Device,
     pub reply: Reply,

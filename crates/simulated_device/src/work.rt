@@ -6,7 +6,7 @@ use crate::{Chip, Device, Written, reply};
 use zedboard_bsp::qspi_spansion::{PAGE_SIZE, SECTOR_SIZE};
 
 // What a command asks for: a part of the array, to be erased, or programmed from a place in it on.
-#[derive(Drop)]
+#[derive(Clone, Copy)]
 pub struct Work {
     pub there: bool,
     pub erases: bool,

@@ -2,7 +2,7 @@
 use crate::order::Order;
 use crate::random;
 
-#[derive(Drop)]
+#[derive(Clone, Copy)]
 pub struct Lengths {
     pub data: usize,
     pub buffer: usize,

@@ -6,6 +6,8 @@
 // under way, and a digest of all that was seen. Where something differs, a line `DIFFERS` names the call, the
 // order and what it is: what a step, a start or a query said or did, the run, or memory that was to be left
 // alone. `tools/step_orders` makes the stored output by a model.
+#![tactic(auto)]
+
 use crate::call::CALLS;
 use crate::memory::{BYTES, LOG, UNTOUCHED, UNTOUCHED_BYTE};
 use crate::order::Order;

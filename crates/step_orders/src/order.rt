@@ -8,7 +8,7 @@ use qspi_operation::Op;
 // More turns than any call takes.
 pub const TURNS: usize = 4096;
 
-#[derive(Drop)]
+#[derive(Clone, Copy)]
 pub struct Order {
     pub call: usize,
     pub a: u32,

@@ -1,7 +1,7 @@
 // The lines of the orders.
 use crate::tally;
 use crate::tally::SLOTS;
-use libc::STDOUT_FILENO;
+use printing::STDOUT_FILENO;
 
 // The calls by number.
 const CALLS: [u8; 353] = *b"\

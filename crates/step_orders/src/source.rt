@@ -6,7 +6,7 @@ use crate::{memory, random};
 use qspi_operation::Asked;
 
 // What was drawn last, and whether the controller is enabled.
-#[derive(Drop)]
+#[derive(Clone, Copy)]
 pub struct Source {
     pub draw: u32,
     pub enabled: bool,

@@ -8,7 +8,7 @@ use qspi_operation::{Asked, Reply};
 
 // What is done in a turn: a step that is lent the right lengths, a step aside that is lent others, a start, a
 // start of a list that is not lent.
-#[derive(Drop)]
+#[derive(Clone, Copy)]
 pub enum Act {
     Step,
     Aside,
@@ -23,7 +23,7 @@ pub const NOT_TOLD: u32 = 0x300;
 
 // The answer so far, the two log words of the access that is due, and the answer expected: under way where an
 // access is made, of which no more is known.
-#[derive(Drop)]
+#[derive(Clone, Copy)]
 pub struct Turn {
     pub answer: u32,
     pub used: usize,

@@ -1,6 +1,9 @@
 // Runs write enable on document 01's six replies and prints the log, one line an access.
-use libc::STDOUT_FILENO;
+#![tactic(auto)]
+
 use qspi_calls::start;
+
+const STDOUT_FILENO: i32 = 1;
 
 // A drain with nothing to drain, config, config, ready, the reply, config.
 const REPLIES: [u32; 6] = [0, 0x8008_C4C1, 0x8008_C0C1, 0x10, 0xFF00_0000, 0x8008_C0C1];

@@ -1,2 +1,4 @@
 // The ZedBoard: its flash chip.
+#![tactic(auto)]
+
 pub mod qspi_spansion;

@@ -38,7 +38,7 @@ pub const QSPI_DEV_COMBINATION_REV_F: QspiDeviceCombination = QspiDeviceCombinat
 };
 
 // The commands in use.
-#[derive(Drop)]
+#[derive(Clone, Copy)]
 pub enum RegisterId {
     // WRR
     WriteRegisters,
@@ -89,7 +89,7 @@ impl RegisterId {
 }
 
 // Status register 1: the lowest bit of each field.
-#[derive(Drop)]
+#[derive(Clone, Copy)]
 pub struct StatusRegister1(pub u8);
 
 impl StatusRegister1 {
@@ -146,7 +146,7 @@ impl StatusRegister1 {
 }
 
 // Configuration register 1: the lowest bit of each field. Bit 4 has none.
-#[derive(Drop)]
+#[derive(Clone, Copy)]
 pub struct ConfigRegister1(pub u8);
 
 impl ConfigRegister1 {

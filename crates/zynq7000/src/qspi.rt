@@ -44,7 +44,7 @@ pub fn address(offset: u8) -> u32
 }
 
 // The registers by name.
-#[derive(Drop)]
+#[derive(Clone, Copy)]
 pub enum Register {
     Config,
     InterruptStatus,
@@ -84,7 +84,7 @@ impl Register {
 }
 
 // Baud rate divisor register values.
-#[derive(Drop)]
+#[derive(Clone, Copy)]
 pub enum BaudRateDivisor {
     _2,
     _4,
@@ -131,7 +131,7 @@ impl BaudRateDivisor {
 }
 
 // Flash read instruction sent in linear addressing mode.
-#[derive(Drop)]
+#[derive(Clone, Copy)]
 pub enum InstructionCode {
     Read,
     FastRead,
@@ -158,7 +158,7 @@ impl InstructionCode {
 }
 
 // Configuration register, offset 00: the lowest bit of each field.
-#[derive(Drop)]
+#[derive(Clone, Copy)]
 pub struct Config(pub u32);
 
 impl Config {
@@ -209,7 +209,7 @@ impl Config {
 }
 
 // Interrupt status register, offset 04: the bits.
-#[derive(Drop)]
+#[derive(Clone, Copy)]
 pub struct InterruptStatus(pub u32);
 
 impl InterruptStatus {
@@ -248,7 +248,7 @@ impl InterruptStatus {
 }
 
 // SPI enable register, offset 14.
-#[derive(Drop)]
+#[derive(Clone, Copy)]
 pub struct SpiEnable(pub u32);
 
 impl SpiEnable {
@@ -264,7 +264,7 @@ impl SpiEnable {
 }
 
 // Loopback master clock delay register, offset 38: the lowest bit of each field.
-#[derive(Drop)]
+#[derive(Clone, Copy)]
 pub struct LoopbackMasterClockDelay(pub u32);
 
 impl LoopbackMasterClockDelay {
@@ -285,7 +285,7 @@ impl LoopbackMasterClockDelay {
 
 // Linear QSPI configuration register, offset A0, controlling memory-mapped flash reads: the lowest
 // bit of each field.
-#[derive(Drop)]
+#[derive(Clone, Copy)]
 pub struct LinearQspiConfig(pub u32);
 
 impl LinearQspiConfig {
@@ -327,21 +327,21 @@ impl LinearQspiConfig {
 }
 
 // A register access: the offset, and the value that was read or written.
-#[derive(Drop)]
+#[derive(Clone, Copy)]
 pub enum Access {
     Read(u8, u32),
     Write(u8, u32),
 }
 
 // The two words of an access in a log.
-#[derive(Drop)]
+#[derive(Clone, Copy)]
 pub struct LogWords {
     pub first: u32,
     pub value: u32,
 }
 
 // What the two words of a log record are: an access, or none (refusal 13, BadLog).
-#[derive(Drop)]
+#[derive(Clone, Copy)]
 pub enum Record {
     Access(Access),
     BadLog,

@@ -5,7 +5,7 @@ ghost use Rattle.zynq7000_hal.specs.Clocks.{source_clock};
 use zynq7000::slcr::clocks::SrcSelIo;
 
 // Frequencies in whole hertz.
-#[derive(Drop)]
+#[derive(Clone, Copy)]
 pub struct Clocks {
     // Reference clock of the I/O PLL.
     pub io_ref_clk: u32,

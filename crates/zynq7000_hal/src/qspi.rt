@@ -36,7 +36,7 @@ pub fn prefill(fifo_writes: u32) -> u32
 }
 
 // Why there is no clock configuration.
-#[derive(Drop)]
+#[derive(Clone, Copy)]
 pub enum ClockCalculationError {
     // The QSPI reference clock is below the CPU 1x clock.
     RefClockSmallerThanCpu1xClock,
@@ -66,7 +66,7 @@ impl ClockCalculationError {
 }
 
 // Baud rate configuration.
-#[derive(Drop)]
+#[derive(Clone, Copy)]
 pub enum BaudRateConfig {
     // Loopback clock mode, which requires a baud rate divisor of 2.
     WithLoopback,
@@ -86,7 +86,7 @@ impl BaudRateConfig {
 }
 
 // QSPI clock configuration.
-#[derive(Drop)]
+#[derive(Clone, Copy)]
 pub struct ClockConfig {
     // Reference clock source.
     pub src_sel: SrcSelIo,
@@ -97,7 +97,7 @@ pub struct ClockConfig {
 }
 
 // What a clock calculation answers.
-#[derive(Drop)]
+#[derive(Clone, Copy)]
 pub enum ClockCalculation {
     Config(ClockConfig),
     Refused(ClockCalculationError),
@@ -215,7 +215,7 @@ impl ClockConfig {
 }
 
 // QSPI flash vendor, which determines the linear mode configuration.
-#[derive(Drop)]
+#[derive(Clone, Copy)]
 pub enum QspiVendor {
     // Winbond or Spansion.
     WinbondAndSpansion,
@@ -226,7 +226,7 @@ pub enum QspiVendor {
 pub type OperatingMode = InstructionCode;
 
 // QSPI flash setup, used to derive the linear mode configuration.
-#[derive(Drop)]
+#[derive(Clone, Copy)]
 pub struct QspiDeviceCombination {
     // Flash vendor.
     pub vendor: QspiVendor,
@@ -277,7 +277,7 @@ pub fn io_mode_config(dual_flash: bool) -> LinearQspiConfig
 }
 
 // Whether `initialize` writes the loopback delay register, and what.
-#[derive(Drop)]
+#[derive(Clone, Copy)]
 pub enum LoopbackWrite {
     Word(u32),
     Nothing,
@@ -285,14 +285,14 @@ pub enum LoopbackWrite {
 
 // The words of `initialize`: the clock control word that it returns, and what it writes to the QSPI
 // block.
-#[derive(Drop)]
+#[derive(Clone, Copy)]
 pub struct InitializeWords {
     pub lqspi_clk_ctrl: u32,
     pub config: u32,
     pub loopback: LoopbackWrite,
 }
 
-#[derive(Drop)]
+#[derive(Clone, Copy)]
 pub enum Initialization {
     Words(InitializeWords),
     // The clock divisor is wider than its six bits.

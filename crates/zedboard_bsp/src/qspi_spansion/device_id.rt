@@ -5,33 +5,33 @@ ghost use Rattle.zedboard_bsp.specs.DeviceId.{interface_codes, interface_answer,
 
 use crate::qspi_spansion::words;
 
-#[derive(Drop)]
+#[derive(Clone, Copy)]
 pub enum MemoryInterfaceType {
     _128Mb,
     _256Mb,
 }
 
 // The type of a code, or the byte that is none (refusal 11).
-#[derive(Drop)]
+#[derive(Clone, Copy)]
 pub enum MemoryInterfaceTypeCode {
     Known(MemoryInterfaceType),
     UnknownCode(u8),
 }
 
-#[derive(Drop)]
+#[derive(Clone, Copy)]
 pub enum Density {
     _128Mb,
     _256Mb,
 }
 
 // The density of a code, or the byte that is none (refusal 11).
-#[derive(Drop)]
+#[derive(Clone, Copy)]
 pub enum DensityCode {
     Known(Density),
     UnknownCode(u8),
 }
 
-#[derive(Drop)]
+#[derive(Clone, Copy)]
 pub enum SectorArchictecture {
     // Uniform 256 kB sectors.
     Uniform,
@@ -40,13 +40,13 @@ pub enum SectorArchictecture {
 }
 
 // The architecture of a code, or the byte that is none (refusal 11).
-#[derive(Drop)]
+#[derive(Clone, Copy)]
 pub enum SectorArchictectureCode {
     Known(SectorArchictecture),
     UnknownCode(u8),
 }
 
-#[derive(Drop)]
+#[derive(Clone, Copy)]
 pub struct BaseDeviceId {
     manufacturer_id: u8,
     device_id: u16,
@@ -105,7 +105,7 @@ impl BaseDeviceId {
     }
 }
 
-#[derive(Drop)]
+#[derive(Clone, Copy)]
 pub struct ExtendedDeviceId {
     base: BaseDeviceId,
     id_cfi_len: u8,

@@ -5,7 +5,7 @@ ghost use Rattle.zynq7000.specs.Qspi.{lows};
 ghost use Rattle.zynq7000.specs.Slcr.{source_code, clock_control_table};
 
 // Clock source selection for IO peripheral clocks.
-#[derive(Drop)]
+#[derive(Clone, Copy)]
 pub enum SrcSelIo {
     // IO PLL output.
     IoPll,
@@ -32,7 +32,7 @@ impl SrcSelIo {
 }
 
 // Clock control register for a peripheral with a single clock output: the lowest bit of each field.
-#[derive(Drop)]
+#[derive(Clone, Copy)]
 pub struct SingleCommonPeriphIoClockControl(pub u32);
 
 impl SingleCommonPeriphIoClockControl {

@@ -1,0 +1,46 @@
+use Rattle.std.proofs.Common.{rules, ◌≡◌, true, false, ℕ, ◌+◌, ◌-◌, ◌*◌, ◌<◌, ◌≤◌, length, ◌/◌, ◌%◌, Bool, nat_eq, nat_lt, List, [], ◌∷◌, ◌++◌, slice_index_or, slice_set, bit_and, bit_or, Fits, w8, w32, w64, Bor, MutBor}
+use Rattle.qspi_calls.specs.Begins.{Begins, BeginsWith, BeginsInto, BeginsList}
+use mathlib.Core.Path.{◌∙◌, sym}
+use borrow.Author.Tests.{eq-eqb, ne_eqb, ltb-false}
+use native.Mathlib.Omega.{arith}
+use Rattle.zedboard_bsp.specs.Limits.{max_data_bytes_per_write}
+use Rattle.qspi_calls.specs.Starts as spec
+use Rattle.qspi_calls.specs.Calls as call
+use Rattle.qspi_transfer.specs.declared.low_level.Sequence.TheVariants as sequence
+use Rattle.qspi_script.specs.declared.Stage.TheVariants as stage
+use Rattle.qspi_script.specs.declared.Gives.TheVariants as gives
+use Rattle.qspi_calls.proofs.start.program.Goals as goal
+use Rattle.qspi_calls.proofs.Begins as begins
+use Rattle.qspi_calls.proofs.start.program.Reads as reads
+use Rattle.qspi_calls.proofs.start.going.Reads as going-reads
+use Rattle.qspi_calls.proofs.start.over.Reads as over_reads
+use Rattle.qspi_calls.proofs.start.place.Reads as place-reads
+use Rattle.qspi_calls.proofs.start.programming.Reads as programming-reads
+use Rattle.zedboard_bsp.proofs.qspi_spansion.limits.crosses_page.Reads as crosses-page-reads
+use Rattle.zedboard_bsp.proofs.qspi_spansion.limits.out_of_range.Reads as out-of-range-reads
+use Rattle.zedboard_bsp.proofs.qspi_spansion.limits.too_large.Reads as too-large-reads
+
+-- src/start.rt:431:9
+pub returns-then-out_of_range-clause-begins : goal.returns-then-out_of_range-clause-begins
+returns-then-out_of_range-clause-begins c =
+    let both = begins.program _ _ _ (omega (arith, c.well_formed)) _ (simp (c.over.ensures.start, c.if-out_of_range.true, ← c.out_of_range.ensures.range, c.programming-job.ensures.job)) in both.1
+
+-- src/start.rt:434:9
+pub returns-then-too_large-clause-begins : goal.returns-then-too_large-clause-begins
+returns-then-too_large-clause-begins c =
+    let both = begins.program _ _ _ (omega (arith, c.well_formed)) _ (simp (c.over-then-too_large.ensures.start, c.if-too_large.true, ← c.too_large.ensures.size, c.if-out_of_range.false, ← c.out_of_range.ensures.range, c.programming-job.ensures.job)) in both.1
+
+-- src/start.rt:437:9
+pub returns-then-data-ne0-clause-begins : goal.returns-then-data-ne0-clause-begins
+returns-then-data-ne0-clause-begins c =
+    let both = begins.program _ _ _ (omega (arith, c.well_formed)) _ (simp (c.over-then-data-ne0.ensures.start, ne_eqb _ _ c.if-data-ne0.true, c.if-too_large.false, ← c.too_large.ensures.size, c.if-out_of_range.false, ← c.out_of_range.ensures.range, c.programming-job.ensures.job)) in both.1
+
+-- src/start.rt:440:9
+pub returns-then-crosses_page-clause-begins : goal.returns-then-crosses_page-clause-begins
+returns-then-crosses_page-clause-begins c =
+    let both = begins.program _ _ _ (omega (arith, c.well_formed)) _ (simp (c.over-then-crosses_page.ensures.start, c.if-crosses_page.true, ← c.crosses_page.ensures.page, eq-eqb _ _ c.if-data-ne0.false, c.if-too_large.false, ← c.too_large.ensures.size, c.if-out_of_range.false, ← c.out_of_range.ensures.range, c.programming-job.ensures.job)) in both.1
+
+-- src/start.rt:425:1
+pub returns-clause-begins : goal.returns-clause-begins
+returns-clause-begins c =
+    let both = begins.program _ _ _ (omega (arith, c.well_formed)) _ (simp (c.going.ensures.start, c.place.ensures.place, c.if-crosses_page.false, ← c.crosses_page.ensures.page, eq-eqb _ _ c.if-data-ne0.false, c.if-too_large.false, ← c.too_large.ensures.size, c.if-out_of_range.false, ← c.out_of_range.ensures.range, c.programming-job.ensures.job)) in both.1
