@@ -4,18 +4,18 @@ use mathlib.Core.List.{List, [], ◌∷◌, ◌++◌, append-nil}
 use Prim.Native.Nat.{ℕ, ◌+◌, ◌≤◌, ◌<◌}
 use native.Mathlib.Omega.{arith}
 use lib.ListN.{length, take}
-use Rattle.qspi_calls.specs.Chunks.{Chunk, chunks, Among, here}
+use Rattle.qspi_calls.specs.Chunks.{Chunk, chunks, Among, here, there}
 use Rattle.power_cut.specs.Flash.{Array}
 use Rattle.power_cut.specs.Observer.{Observed, observed}
-use Rattle.power_cut.specs.Statement.{In, NextOnly, the_next, Save, row_log, CallByCall, at_hand, past, Kept, PowerCut}
+use Rattle.power_cut.specs.Statement.{In, NextOnly, no_doubt, the_next, Save, row_log, CallByCall, at_hand, past, Kept, PowerCut}
 use Rattle.power_cut.specs.OneCall.{KeptBy, OneCut}
 use Rattle.power_cut.proofs.Lands.{Ordered, anding_in, anding_out, chunks_ordered, ordered_front, ordered_seam}
 
 -- the chunk in doubt holds no byte of a finished one
 apart : {q : List Chunk} (k l : List Chunk) → NextOnly q l → Ordered (k ++ l) → {b : Chunk} → Among b k → (i : ℕ) → i < length b.bytes → (d : Chunk) → Among d q → In (b.address + i) d → ⊥
 apart k l (the_next {c} {left} y z) o m i h d here n = omega (arith, ordered_seam k c left o m, n.0)
-apart k l Rattle.power_cut.specs.Statement.no_doubt o {b = b} m i h d x16 n = elim x16 [ ]
-apart k _ (the_next {c = c} {left = left} y z) o {b = b} m i h d (Rattle.qspi_calls.specs.Chunks.there x24) n = elim x24 [ ]
+apart k l no_doubt o {b = b} m i h d x16 n = elim x16 [ ]
+apart k _ (the_next {c = c} {left = left} y z) o {b = b} m i h d (there x24) n = elim x24 [ ]
 
 record Alone (c : Save) (k d : List Chunk) : Type 0 where
   left : List Chunk

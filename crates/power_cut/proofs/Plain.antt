@@ -13,7 +13,7 @@ use borrow.Author.Tests.{ltb-true, ltb-false}
 use Rattle.qspi_calls.specs.Chunks.{Chunk, chunks_in, chunks, Among, here, there}
 use Rattle.power_cut.specs.Flash.{Array}
 use Rattle.power_cut.specs.Observer.{Observed}
-use Rattle.power_cut.specs.Statement.{In, total, NextOnly, the_next, Save}
+use Rattle.power_cut.specs.Statement.{In, total, NextOnly, no_doubt, the_next, Save}
 use Rattle.power_cut.specs.OneCall.{KeptBy}
 use Rattle.power_cut.proofs.StatementLaws.{at_most_one}
 
@@ -135,7 +135,7 @@ pub record Plain (a : ℕ) (bs : List ℕ) (old new : Array) (n : ℕ) (doubt : 
 
 doubt_next : (f a : ℕ) (bs : List ℕ) (k l : List Chunk) {q : List Chunk} → k ++ l ≡ chunks_in f a bs → NextOnly q l → (c : Chunk) → Among c q → c ≡ record { address = a + total k; bytes = take 128 (drop (total k) bs) }
 doubt_next f a bs k l e (the_next {left = left} y z) c here = next_chunk_lem f a bs k c left e
-doubt_next f a bs k l e Rattle.power_cut.specs.Statement.no_doubt c x5 = elim x5 [ ]
+doubt_next f a bs k l e no_doubt c x5 = elim x5 [ ]
 doubt_next f a bs k _ e (the_next {left = left} y z) c (there x10) = elim x10 [ ]
 
 pub plain : (c : Save) (old new : Array) (o : Observed) → KeptBy c old o new → Plain c.address c.bytes old new (total o.finished) o.doubt

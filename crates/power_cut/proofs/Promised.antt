@@ -85,7 +85,7 @@ module _ (a : ℕ) (bytes rs log : List ℕ) where
       subst (λ (z : PagesRan). Saved a bytes z log₁) (sym (ran_is {r = r} p.answer)) (rw p.logged (record {
         accesses = result.log;
         is_log = used_words result log;
-        to_registers = run_loggable (Call.write-pages a bytes) (length log / 2) rs;
+        to_registers = run_loggable (Call.write_pages_call a bytes) (length log / 2) rs;
         runs = λ g. is_run octets;
         claim = power_cut_behind (run_goes (is_run octets));
       }))

@@ -23,7 +23,7 @@ use Rattle.power_cut.specs.Controller.{Device, device, flash_of, Trace, still, q
 use Rattle.power_cut.specs.Observer.{Observed, see, sees, observed}
 use Rattle.power_cut.specs.Statement.{In, total, anding, Save, Each, row_log, AtEnd, CallByCall, no_call, at_hand, past, Kept, PowerCut}
 use Rattle.power_cut.specs.Row.{IsRun, Precedes, Row, empty, last, more}
-use Rattle.power_cut.proofs.Driver.{midway, action, succeeded, failed, refuses, outset, Driver, at, over, state_of, start_next, driver_start}
+use Rattle.power_cut.proofs.Driver.{midway, action, transfer_of, succeeded, failed, refuses, outset, Driver, at, over, state_of, start_next, driver_start}
 use Rattle.power_cut.proofs.Fits.{AllFit, Good, good_driver}
 use Rattle.power_cut.proofs.Levels.{both_set}
 use Rattle.power_cut.proofs.Watch.{view}
@@ -72,7 +72,7 @@ precedes_over p = run_stops p.runs p.read p.logged
 
 -- a run's accesses go to registers, and so do those of a row
 run_to_registers : {c : Save} → IsRun c → Loggable c.accesses
-run_to_registers {c} h = rw (ap (λ (z : Save). z.accesses) h.is) (run_loggable (Call.write-pages c.address c.bytes) h.room h.replies)
+run_to_registers {c} h = rw (ap (λ (z : Save). z.accesses) h.is) (run_loggable (Call.write_pages_call c.address c.bytes) h.room h.replies)
 
 loggable_append : (l m : List Access) → Loggable l → Loggable m → Loggable (l ++ m)
 loggable_append [] m h k = k
@@ -111,7 +111,7 @@ record Rested (old : Array) (early : List Chunk) (s : Driver) (e : Device) : Typ
   shows : view early s false ≡ between (early ++ finished_by s)
 
 rested : (old : Array) (early : List Chunk) {s : Driver} {e : Device} → want (state_of s) ≡ nothing → OnDevice early old s e → Rested old early s e
-rested old early n (during {p = p} y w) = absurd (some_due (midway p) (action _ p) n)
+rested old early n (during {s = s} {p = p} {c = c} y w) = absurd (some_due (midway p) (action (transfer_of s c) p) n)
 rested old early n (on.ended {a = succeeded} nf u y) = record { rest = resting u y; shows = refl }
 rested old early n (on.ended {a = failed} nf u y) = absurd nf
 rested old early n (on.ended {a = refuses b} nf u y) = record { rest = resting u y; shows = refl }

@@ -8,10 +8,11 @@ use lib.Dec.{ltb, eqb}
 use lib.ListN.{length, get_or, take, length-append}
 use lib.Seq.{take-append_seam, take-length, get_or-append_seam}
 use borrow.Author.Tests.{ltb-false}
+use Rattle.zynq7000.specs.Access.{value_word}
 use Rattle.zynq7000.specs.declared.qspi.Access.{Access}
 use Rattle.qspi_script.specs.declared.Status.{Status}
 use Rattle.qspi_script.specs.declared.Status.TheVariants.{Going, Done, OutOfRange, Alignment, RepeatedSector, ListTooLong}
-use Rattle.qspi_operation.specs.Machine.{Want, nothing, Script, State, ended, onward, begin, status_in, count_in, called, Matches, m_read, m_write, Makes, after}
+use Rattle.qspi_operation.specs.Machine.{Want, nothing, Script, State, ended, next, onward, begin, status_in, count_in, called, Matches, m_read, m_write, Makes, after}
 use Rattle.qspi_operation.proofs.Orders.{run_ended}
 use Rattle.qspi_calls.specs.Sectors.{sector_status, first_refused, first_repeat}
 use Rattle.qspi_calls.specs.Calls.{refused, refused_at, sectors, erase_sectors}
@@ -29,7 +30,7 @@ use Rattle.power_cut.proofs.SectorWatch.{doubt_before, doubt_after, view, view_s
 sees_all : (whole : List ℕ) {s : State} {o : SectorsSeen} (l : List Access) → Watched whole s o → Makes s l → Watched whole (after s l) (sees o l)
 unfolding sees
 sees_all whole [] w m = w
-sees_all whole (a ∷ l) w m = sees_all whole l (watch whole a w m.0) m.1
+sees_all whole {s = s} (a ∷ l) w m = sees_all whole {s = next s (value_word a)} l (watch whole a w m.0) m.1
 
 start_watched : (l : List ℕ) → InRange l → Watched l (begin (sectors l) [] 0) fresh
 start_watched l i = record { driver = start_next l []; level = false; stands = begin_next l []; shows = sym (view_start l [] false); good = good_start l l [] i refl }

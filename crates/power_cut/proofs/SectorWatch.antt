@@ -244,6 +244,8 @@ module _ (whole : List ℕ) where
 
   driver_watched : (d : Driver) (h : Bool) (c : Access) → Good whole d → Matches (want (state_of d)) c → Watched whole (next (state_of d) (value_word c)) (see (view d h) c)
   driver_watched (at s p taken a l k) h c g m = at_watched s p taken a l k h c (next_of p) g m
+  driver_watched (succeeded _) h c g m = elim m [ ]
+  driver_watched (failed _ _ _) h c g m = elim m [ ]
 
   -- THEOREM. It does so after each access that is due, whatever the reply.
   pub watch : {s : machine.State} {o : SectorsSeen} (c : Access) → Watched whole s o → Matches (want s) c → Watched whole (next s (value_word c)) (see o c)

@@ -13,7 +13,7 @@ use Rattle.zynq7000.specs.Bits.{bit, is_set}
 use Rattle.zynq7000.specs.declared.qspi.Access.{Access}
 use Rattle.qspi_script.specs.declared.Status.TheVariants.{Going, RepliesEnded, LogFull}
 use Rattle.qspi_operation.specs.Step.{is_going}
-use Rattle.qspi_calls.specs.Chunks.{Chunk, chunks, Among, here}
+use Rattle.qspi_calls.specs.Chunks.{Chunk, chunks, Among, here, there}
 use Rattle.power_cut.specs.Flash.{anded}
 use Rattle.power_cut.specs.Observer.{sees, observed}
 use Rattle.power_cut.specs.Statement.{total, NextOnly, no_doubt, the_next, brought, anding, Save, Each, row_log, CallByCall, no_call, at_hand, past, PowerCut}
@@ -97,7 +97,7 @@ at_most_one (the_next y z) = omega arith
 pub doubt_in_a_page : {q l : List Chunk} {c : Chunk} → NextOnly q l → Among c q → (length c.bytes ≤ 128) × (c.address % 256 + length c.bytes ≤ 256)
 doubt_in_a_page (the_next y z) here = (y, z)
 doubt_in_a_page {l = l} {c = c} no_doubt x4 = elim x4 [ ]
-doubt_in_a_page (the_next {c = c} {left = left} y z) (Rattle.qspi_calls.specs.Chunks.there x8) = elim x8 [ ]
+doubt_in_a_page (the_next {c = c} {left = left} y z) (there x8) = elim x8 [ ]
 
 pub one_over_all : {row : List Save} {k : ℕ} {f q : List Chunk} → CallByCall row k f q → length q ≤ 1
 one_over_all no_call = omega arith

@@ -75,7 +75,7 @@ front_loggable (a ∷ l) m h = (h.0, front_loggable l m h.1)
 loggable : (a : ℕ) (bs : List ℕ) (l : List Access) → Makes (begin (write_pages a bs) [] 0) l → Loggable l
 loggable a bs l m =
     let e = ap (λ (r : Result). r.log) (runs_on l (begin (write_pages a bs) [] 0) 0 [] m) ∙ before_log l (runs 0 (after (begin (write_pages a bs) [] 0) l) []) in
-    let y : Loggable (runs (length l + 0) (begin (write_pages a bs) [] 0) (replies_of l ++ [])).log = run_loggable (Call.write-pages a bs) (length l + 0) (replies_of l ++ []) in
+    let y : Loggable (runs (length l + 0) (begin (write_pages a bs) [] 0) (replies_of l ++ [])).log = run_loggable (Call.write_pages_call a bs) (length l + 0) (replies_of l ++ []) in
     front_loggable l _ (rw e at y)
 
 -- ---- for the contracts of a driver: a save begins, and each step goes on with it
@@ -118,18 +118,18 @@ module _ (a : ℕ) (bs : List ℕ) where
         let more : length q.made ≡ length p.made + length l = ap length made ∙ length-append p.made l in
         let k₀ = length_encode p.made in
         let k₁ = length_encode l in
-        let w : length (take (2 * length p.made) log) ≡ 2 * length p.made = ap length is-log ∙ k₀ in
+        let w : length (take (2 * length p.made) log) ≡ 2 * length p.made = ap length is_log ∙ k₀ in
         let u : length (take (2 * length p.made) log ++ encode l) ≡ 2 * length q.made = length-append (take (2 * length p.made) log) (encode l) ∙ omega (arith, w, k₁, more) in
         let y : log₁ ≡ take (2 * length p.made) log ++ encode l ++ drop (2 * length p.made + length (encode l)) log = log_is ∙ sets-eq (encode l) log (2 * length p.made) (omega (arith, k₁, more, short)) in
         ap (take (2 * length q.made)) y ∙ take_at (take (2 * length p.made) log ++ encode l) _ (2 * length q.made) u
-        ∙ ap (λ (z : List ℕ). z ++ encode l) is-log ∙ sym (encode_append p.made l) ∙ ap encode (sym made)
+        ∙ ap (λ (z : List ℕ). z ++ encode l) is_log ∙ sym (encode_append p.made l) ∙ ap encode (sym made)
 
     saving-on : {o₁ : Op} → ((i : ℕ) → get_or bs i 0 < 256) → Stands (begin (write_pages a bs) [] 0) (length log) q → Follows (lending bs log) q o₁ → take (2 * length p.made) log ≡ encode p.made → Saving a bs o₁ log₁
     saving-on {o₁} octets s f is_log =
         saving_at q o₁ log₁ octets
         (subst (λ (n : ℕ). Stands (begin (write_pages a bs) [] 0) n q) (sym as_long) s)
         (subst (λ (n : ℕ). Follows (record { bytes = bs; buffer = []; room = n }) q o₁) (sym as_long) f)
-        (used-words s.short is-log)
+        (used-words s.short is_log)
 
 -- lent other memory, or after its end, a step and a run leave all as it was
 module _ (o : Op) (bytes buffer log : List ℕ) {s : Stepped} {buffer₁ log₁ : List ℕ} (repeats : (g : Lending) (p : Point) → Follows g p o → is_going p.answer ≡ false → Leaves o buffer log s buffer₁ log₁)

@@ -97,6 +97,7 @@ module _ (early : List Chunk) (old : Array) where
   step_shows : (whole : List Chunk) {s : Driver} {d : Device} {a : Access} → Good whole s → OnDevice early old s d → Matches (want (state_of s)) a → see (view early s false) a ≡ view early (driver_after s (value_word a)) false
   step_shows whole {a = a} g (during {s} {p} {taken} {c} {l} {k} {f} y z) m =
       watch early whole (at s p taken c l k) false a g m ∙ ap (view early (driver_after (at s p taken c l k) (value_word a))) (stays_low s c l k z m)
+  step_shows whole {a = a} g (on.ended {l = l} {k = k} {c = c} {w = w} {r = r} {f = f} _ _ _) m = elim m [ ]
 
   pub along : (whole : List Chunk) {d e : Device} {l : List Access} (s : Driver) → Good whole s → OnDevice early old s d → Makes (state_of s) l → Trace d l e
       → OnDevice early old (driven s l) e × (sees (view early s false) l ≡ view early (driven s l) false)

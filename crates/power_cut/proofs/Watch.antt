@@ -277,3 +277,4 @@ module _ (early : List Chunk) where
 
   pub watch : (whole : List Chunk) (d : Driver) (h : Bool) (a : Access) → Good whole d → Matches (want (state_of d)) a → see (view d h) a ≡ view (driver_after d (value_word a)) (level_after d (value_word a) h)
   watch whole (at s p taken c l k) h a g m = watch_at whole s p taken c l k h a g m
+  watch whole (over _ _ _) h a g m = elim m [ ]

@@ -129,22 +129,22 @@ along y f (quiet z t) = along (silent y z) f t
 along y f (step g t) = let r = along (advance y f.0 g) f.1 t in ((none_left y f.0, r.0), r.1)
 
 -- a trace over two logs, one behind the other, is one over each
-pub record Seam (l m : List Access) {d e : Device} (t : Trace d (l ++ m) e) : Type 0 where
+pub record Seam (l m : List Access) {z : List Access} {d e : Device} (t : Trace d z e) : Type 0 where
   pub middle : Device
   pub front : Trace d l middle
   pub back : Trace middle m e
   pub joins : AllOut front → AllOut back → AllOut t
   pub both_out : AllOut t → AllOut front × AllOut back
 
-seam_on : (a : Access) (l m : List Access) → ((d e : Device) (t : Trace d (l ++ m) e) → Seam l m t) → {d e : Device} (t : Trace d (a ∷ l ++ m) e) → Seam (a ∷ l) m t
+seam_on : (a : Access) (l m z : List Access) → ((d e : Device) (t : Trace d z e) → Seam l m t) → {d e : Device} (t : Trace d (a ∷ z) e) → Seam (a ∷ l) m t
 unfolding AllOut
-seam_on a l m k (quiet z t) = let r = seam_on a l m k t in record { middle = r.middle; front = quiet z r.front; back = r.back; joins = r.joins; both_out = r.both_out }
-seam_on a l m k (step g t) = let r = k _ _ t in record { middle = r.middle; front = step g r.front; back = r.back; joins = λ h i. (h.0, r.joins h.1 i); both_out = λ h. (let p = r.both_out h.1 in ((h.0, p.0), p.1)) }
+seam_on a l m z k (quiet y t) = let r = seam_on a l m z k t in record { middle = r.middle; front = quiet y r.front; back = r.back; joins = r.joins; both_out = r.both_out }
+seam_on a l m z k (step g t) = let r = k _ _ t in record { middle = r.middle; front = step g r.front; back = r.back; joins = λ h i. (h.0, r.joins h.1 i); both_out = λ h. (let p = r.both_out h.1 in ((h.0, p.0), p.1)) }
 
 pub seam : (l m : List Access) {d e : Device} (t : Trace d (l ++ m) e) → Seam l m t
 unfolding AllOut
 seam [] m {d} t = record { middle = d; front = still; back = t; joins = λ h i. i; both_out = λ h. (tt, h) }
-seam (a ∷ l) m t = seam_on a l m (λ d e u. seam l m u) t
+seam (a ∷ l) m t = seam_on a l m (l ++ m) (λ d e u. seam l m u) t
 
 module _ {Call : Script → Type 0} (h : (s : Script) → Call s → Replied s) where
   rows : {l : List Access} {z : State} {d e : Device} → RowOf Call l z → AtRest d → (t : Trace d l e) → AllOut t × (want z ≡ nothing → AtRest e)
@@ -282,24 +282,24 @@ pub data SendsNothing : Script → Type 0 where
 
 -- THEOREM. Every other call of 01 is covered. The list of sectors (document 02, U1) is a case of `Sends` too.
 pub all_that_send : {s : Script} → Call s → Sends s ⊎ SendsNothing s
-all_that_send Call.write-enable = inl write_enable
-all_that_send Call.write-disable = inl write_disable
-all_that_send Call.clear-status = inl clear_status
-all_that_send Call.read-status = inl read_status
-all_that_send Call.read-config = inl read_config
-all_that_send Call.read-id = inl read_id
-all_that_send Call.read-long-id = inl read_long_id
-all_that_send (Call.write-status sr) = inl (write_status sr)
-all_that_send (Call.write-registers sr cr) = inl (write_registers sr cr)
+all_that_send Call.write_enable = inl write_enable
+all_that_send Call.write_disable = inl write_disable
+all_that_send Call.clear_status = inl clear_status
+all_that_send Call.read_status = inl read_status
+all_that_send Call.read_config = inl read_config
+all_that_send Call.read_id = inl read_id
+all_that_send Call.read_long_id = inl read_long_id
+all_that_send (Call.write_status sr) = inl (write_status sr)
+all_that_send (Call.write_registers sr cr) = inl (write_registers sr cr)
 all_that_send (Call.new c) = inl (new c)
-all_that_send (Call.set-write-protection p) = inl (set_write_protection p)
-all_that_send (Call.erase-sector a) = inl (erase_sector a)
+all_that_send (Call.set_write_protection p) = inl (set_write_protection p)
+all_that_send (Call.erase_sector a) = inl (erase_sector a)
 all_that_send (Call.program a bs) = inl (program a bs)
-all_that_send (Call.write-pages a bs) = inl (write_pages_call a bs)
+all_that_send (Call.write_pages_call a bs) = inl (write_pages_call a bs)
 all_that_send (Call.read fast dummy a n) = inl (read fast dummy a n)
 all_that_send (Call.initialize c phase polarity) = inr (initialize c phase polarity)
-all_that_send (Call.enable-linear-addressing word) = inr (enable_linear_addressing word)
-all_that_send (Call.enable-io-mode dual) = inr (enable_io_mode dual)
+all_that_send (Call.enable_linear_addressing word) = inr (enable_linear_addressing word)
+all_that_send (Call.enable_io_mode dual) = inr (enable_io_mode dual)
 all_that_send Call.disable = inr disable
 
 -- after calls that have ended, others find the controller at rest
