@@ -1,11 +1,5 @@
 pub mod SectorLists
 pub mod Promised
-pub mod Types
-pub mod ThinStart
-pub mod ThinStep
-pub mod ThinErase
-pub mod ThinDue
-pub mod ThinAnswer
 pub mod Driving
 pub mod Saving
 pub mod DriverLaws

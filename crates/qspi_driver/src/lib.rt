@@ -18,7 +18,7 @@ use qspi_operation::{Asked, Op, Reply};
 pub mod state;
 
 // The flash chip's driver in I/O mode, with the Rust's name.
-#[derive(Drop)]
+#[derive(Clone, Copy)]
 pub struct QspiSpansionS25Fl256SIoMode {
     pub state: State,
     pub list: SectorList,

@@ -23,7 +23,7 @@ pub struct State {
 }
 
 // The list of sectors as it was lent at the start of `erase_sectors`, a byte a sector: its number.
-#[derive(Drop)]
+#[derive(Clone, Copy)]
 pub struct SectorList {
     pub numbers: [u8; 256],
 }

@@ -1,0 +1,56 @@
+use Rattle.std.proofs.Common.{rules, ◌≡◌, true, false, length, ℕ, ◌+◌, ◌-◌, ◌*◌, ◌<◌, ◌≤◌, ◌/◌, ◌%◌, Bool, nat_eq, nat_lt, List, [], ◌∷◌, ◌++◌, slice_index_or, slice_set, bit_and, bit_or, Fits, w8, w32, w64, Bor, MutBor}
+use Rattle.qspi_operation.specs.Step.{is_going, due_of, log_of, buffer_of}
+use Rattle.qspi_operation.specs.Follows.{DueFollows}
+use Rattle.qspi_driver.specs.State.{begun_of, begun_list_of, lent_to, stepped_of, progress_of}
+use Rattle.qspi_driver.specs.Promise.{Started, Steps, AnswerFollows, Drives}
+use Rattle.qspi_driver.specs.Driver.{idle, driver_of, finished_of, driven_of, list_driven_of, Drive}
+use Rattle.qspi_driver.specs.Saved.{Saves, Untouched}
+use Rattle.qspi_driver.specs.Cleared.{ListStarted, Clears}
+use mathlib.Core.Path.{refl, sym, ap, ◌∙◌}
+use Rattle.qspi_driver.specs.declared.state.Acted.{Acted}
+use Rattle.qspi_driver.proofs.Driving.{Stepped, Good, steps, begins, goes_on, nearer, ends}
+use Rattle.qspi_driver.proofs.finish.Goals as goal
+use Rattle.qspi_driver.proofs.finish.Reads as reads
+use Rattle.qspi_driver.proofs.state.is_under_way.Reads as is-under-way-reads
+use Rattle.qspi_driver.proofs.state.next_reply.Reads as next-reply-reads
+use Rattle.qspi_driver.proofs.state.step.Reads as step-reads
+
+-- src/lib.rt:127:5
+pub loop-answer-smaller : goal.loop-answer-smaller
+loop-answer-smaller c =
+    let x = c.args in
+    let y = c.loop-answer in
+    let e : Stepped x.«data».now (driver_of y.at_hand x.driver.list) y.buffer y.log c.next_reply-reply.result (driver_of c.step-s.result.state x.driver.list) c.step-s.result.answer c.step-s.new.buffer c.step-s.new.log =
+    record {
+      state = ap (λ (z : Acted). driver_of z.state x.driver.list) c.step-s.ensures.acted.0;
+      answer = ap (λ (z : Acted). z.answer) c.step-s.ensures.acted.0;
+      stored = c.step-s.ensures.acted.1;
+      logged = c.step-s.ensures.acted.2;
+      wide = c.step-s.auto.1.1.1.0;
+      long = c.step-s.auto.1.1.1.1.0;
+    } in
+    nearer x.«data».now x.replies.now (driver_of x.driver.state x.driver.list) x.begun x.buffer.now x.log.now (driver_of y.at_hand x.driver.list) y.answer y.buffer y.log y.invariant (sym c.is_under_way.ensures.way ∙ c.loop-answer-test.true) c.next_reply-reply.ensures.reply e
+
+-- src/lib.rt:127:5
+pub loop-answer-preserved : goal.loop-answer-preserved
+loop-answer-preserved c =
+    let x = c.args in
+    let y = c.loop-answer in
+    let e : Stepped x.«data».now (driver_of y.at_hand x.driver.list) y.buffer y.log c.next_reply-reply.result (driver_of c.step-s.result.state x.driver.list) c.step-s.result.answer c.step-s.new.buffer c.step-s.new.log =
+    record {
+      state = ap (λ (z : Acted). driver_of z.state x.driver.list) c.step-s.ensures.acted.0;
+      answer = ap (λ (z : Acted). z.answer) c.step-s.ensures.acted.0;
+      stored = c.step-s.ensures.acted.1;
+      logged = c.step-s.ensures.acted.2;
+      wide = c.step-s.auto.1.1.1.0;
+      long = c.step-s.auto.1.1.1.1.0;
+    } in
+    goes_on x.«data».now x.replies.now (driver_of x.driver.state x.driver.list) x.begun x.buffer.now x.log.now (driver_of y.at_hand x.driver.list) y.answer y.buffer y.log y.invariant (sym c.is_under_way.ensures.way ∙ c.loop-answer-test.true) c.next_reply-reply.ensures.reply e
+
+-- src/lib.rt:111:1
+pub returns : goal.returns
+returns c =
+    let x = c.args in
+    let y = c.loop-answer in
+    let e = ends x.«data».now x.replies.now (driver_of x.driver.state x.driver.list) x.begun x.buffer.now x.log.now (driver_of y.at_hand x.driver.list) y.answer y.buffer y.log y.invariant (sym c.is_under_way.ensures.way ∙ c.loop-answer-test.false) in
+    record { driver = ap (λ (z : Drive). z.driver) e; answer = ap (λ (z : Drive). z.answer) e; stored = ap (λ (z : Drive). z.buffer) e; logged = ap (λ (z : Drive). z.log) e }
