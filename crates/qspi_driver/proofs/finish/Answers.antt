@@ -26,8 +26,8 @@ loop-answer-smaller c =
       answer = ap (λ (z : Acted). z.answer) c.step-s.ensures.acted.0;
       stored = c.step-s.ensures.acted.1;
       logged = c.step-s.ensures.acted.2;
-      wide = c.step-s.auto.1.1.1.0;
-      long = c.step-s.auto.1.1.1.1.0;
+      wide = c.step-s.auto.buffer;
+      long = c.step-s.auto.log;
     } in
     nearer x.«data».now x.replies.now (driver_of x.driver.state x.driver.list) x.begun x.buffer.now x.log.now (driver_of y.at_hand x.driver.list) y.answer y.buffer y.log y.invariant (sym c.is_under_way.ensures.way ∙ c.loop-answer-test.true) c.next_reply-reply.ensures.reply e
 
@@ -42,8 +42,8 @@ loop-answer-preserved c =
       answer = ap (λ (z : Acted). z.answer) c.step-s.ensures.acted.0;
       stored = c.step-s.ensures.acted.1;
       logged = c.step-s.ensures.acted.2;
-      wide = c.step-s.auto.1.1.1.0;
-      long = c.step-s.auto.1.1.1.1.0;
+      wide = c.step-s.auto.buffer;
+      long = c.step-s.auto.log;
     } in
     goes_on x.«data».now x.replies.now (driver_of x.driver.state x.driver.list) x.begun x.buffer.now x.log.now (driver_of y.at_hand x.driver.list) y.answer y.buffer y.log y.invariant (sym c.is_under_way.ensures.way ∙ c.loop-answer-test.true) c.next_reply-reply.ensures.reply e
 
