@@ -3,7 +3,6 @@ use Rattle.std.proofs.Common.{◌≡◌, ℕ, zero, suc, ◌+◌, ◌*◌, ◌/�
 use lib.ListN.{get_or-append}
 use native.Mathlib.Nat.{mod-add-mod}
 use Rattle.zynq7000.specs.Access.{record_of_words}
-use Rattle.zynq7000.specs.declared.qspi.Access.{Access}
 use Rattle.zynq7000.specs.declared.qspi.Record.{Record}
 use Rattle.zynq7000.specs.declared.qspi.Record.TheVariants as record_of
 use Rattle.access_log.specs.declared.Entry.{Entry}

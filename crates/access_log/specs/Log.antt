@@ -3,7 +3,6 @@
 use Rattle.std.specs.Prelude.{ℕ, ◌+◌, ◌*◌, ◌/◌, ◌%◌, Bool, true, false, cond, List, [], ◌∷◌, length, ◌==◌, nat_le, nat_lt, slice_index}
 use Rattle.zynq7000.specs.Access.{first_word, value_word, record_of_words}
 use Rattle.zynq7000.specs.Number.{Answer, Refusal, accepted, refused_with}
-use Rattle.zynq7000.specs.declared.qspi.Access.{Access}
 use Rattle.zynq7000.specs.declared.qspi.Record.{Record}
 use Rattle.zynq7000.specs.declared.qspi.Record.TheVariants as record_of
 use Rattle.access_log.specs.declared.Entry.{Entry}

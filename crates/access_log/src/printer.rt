@@ -56,7 +56,7 @@ pub fn render_words(log: &[u32], first: u64, out: &mut [u8; ROOM]) -> Rendered
 
 // `render_words` on a slice that has the room: a line for each entry that a reader of the log gives, up to
 // its end or the line of a record that 13 refuses. Each turn makes the reader anew, where the one before
-// stood: the checker covers no loop that holds one.
+// stood.
 fn put_lines(log: &[u32], first: u64, out: &mut [u8]) -> Rendered
     requires { 7200 ≤ length out.old }
     ensures text { out.new ≡ over (text_of 512 (entry_at log.now) first 0) out.old }

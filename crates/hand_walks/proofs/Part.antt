@@ -2,7 +2,7 @@
 --     Part F P         F lies in P: F beside the way back, F ∗ (F -∗ P)
 --     second-field     the second of two fields, and `one_field` the only one, of a struct in memory
 --     bytes-part       an array of bytes in memory is its bytes side by side
---     lends_part       given `Room`:  Part (the share t of ys at (b, o)) P  ⊢ ⇛ ∃ γ. own (the `&κ [u8]` ((b, o), γ, ys)) ∗ PartLent
+--     lends_part       given `Room`:  Part (the share t of ys at (b, o)) P  ⊢ ⇛ own (the `&κ [u8]` ((b, o), ys)) ∗ PartLent
 --     part-back        [†κ] ∗ PartLent  ⊢ ⇛ P
 -- and of a lifetime α that is made for a call, beside a lifetime κ of the caller's:
 --     lft-beside       [α] ∗ [κ]_q  ⊢  [α ∷ κ]_q ∗ ([α ∷ κ]_q -∗ [α] ∗ [κ]_q)
@@ -14,29 +14,31 @@ use mathlib.Core.Path.{◌≡◌, refl, sym, ◌∙◌, subst}
 use mathlib.Core.List.{List, [], ◌∷◌, mem-append_left, mem-append_right}
 use lib.ListN.{length}
 use seplogic.Ra.Ura.{Ura}
-use seplogic.Ra.TreeShare.{full_share}
+use base.Fraction.{full_share}
 use mir.Syntax.{Ty, Tys, Sym, Lifetime, ty_int, ty_array, ty_struct, tcons, tnil, w8}
 use mir.Val.{Val, Vals, vstruct, vcons, vnil}
-use base.Logic.{SProp, ent, sep, ex, emp, wand, all, all_e, apply∗}
-use base.Fml.{Lft, GName, Share, Fml, Incl, fsep, fat, flft, fdead, fres, flent, fshr_bor}
+use base.Logic.{SProp, ent, sep, emp, wand, all, all_e, apply∗, mono_r, snd∗}
+use base.Fml.{Lft, Share, Fml, Incl, fsep, fat, feq, fhide, flft, fdead, flent}
 use prog.Memory.{size, align, up}
 use prog.Model.{fields_at}
 use types.Logic.{Logic, sem}
-use types.Kit.{‵, raw, ◌⊛◌, some, later, ◌$◌, ◌∵◌, !, qed, by, move, keep, drop, use1, use2, rewrite, split, join, pick, fsplit, fjoin, fpick, fpack, frame, await, updating, now as at_once, show, assume, done}
-use types.Tokens.{lent_back, shr_bor_shorten}
-use types.Share.{arr_parts}
-use denote.RattleType.{RattleType}
-use denote.Shadow.{pure_l, pure_i}
+use types.Kit.{‵, raw, ◌⊛◌, later, ◌$◌, ◌∵◌, !, qed, move, drop, use1, use2, rewrite, split, join, fsplit, fjoin, fpick, fpack, feq_i, frame, await, updating, now as at_once, assume, done}
+use types.Tokens.{lent_back}
+use types.Share.{parts, arr_parts}
+use denote.RattleType.{RowLaws, RattleType}
+use denote.Shadow.{pure_i}
 use denote.Laws.{Is, Tells, Makes, shows}
-use denote.Memory.{cell_at, part_at, part_of, shares}
+use denote.Memory.{cell_at, part_at, part_of, mem, shares}
 use denote.Array.{Array, Array-Tells, array_vals, Array-Makes}
 use denote.ArrayMemory.{Array-apart, Array-whole}
 use denote.Plain.{uint_vals, uint_Tells, uint_Makes}
 use denote.Builtin.{u8}
 use denote.Ref.{Bor}
-use denote.Slice.{ShrSlice, Room, slice_val, coded_holeys, heres}
-use denote.Steps.{owned, peeks, nothing}
-use denote.Lend.{LentShrs, lends_shr_slice}
+use denote.Slice.{ShrSlice, Room, slice_val, shr_slice_at, elements_shared, elements_shr_laws}
+use denote.Steps.{owned, peeks}
+use denote.Lends.{Lent-map}
+use denote.Copied.{uint_Copied, each_lends}
+use denote.SharingLaws.{shortens}
 
 -- where the second field of a struct begins
 abbrev pub second_at : Ty → Ty → ℕ
@@ -136,19 +138,32 @@ module _ {M : Type 1} {𝓤 : Ura M} (𝓛 : Logic 𝓤) where
   abbrev pub PartLent : Lft → ℕ → Share → List ℕ → ℕ → ℕ → SProp 𝓤 → SProp 𝓤
   PartLent κ n t xs b o P = sep 𝓤 (A.lent κ (bytes_at n t xs b o)) (wand 𝓤 ⟦ bytes_at n t xs b o ⟧ P)
 
-  abbrev pub a_part : ℕ → ℕ → List ℕ → GName → Bor (List ℕ)
-  a_part b o xs γ = record { ref_ptr = (b, o); now = xs }
+  abbrev pub a_part : ℕ → ℕ → List ℕ → Bor (List ℕ)
+  a_part b o xs = record { ref_ptr = (b, o); now = xs }
+
+  -- bytes can be copied, so they are lent with no token
+  lends_bytes : (ℓ : Lifetime) (κ : Lft) (t : Share) (xs : List ℕ) (b o : ℕ) → Room u8 (length xs) → ent 𝓤 ⟦ bytes_at (length xs) t xs b o ⟧
+      (H.⇛ (sep 𝓤 ⟦ (ShrSlice ℓ κ u8).own_val (a_part b o xs) (slice_val (b, o) (length xs) ∷ []) ⟧ (A.lent κ (bytes_at (length xs) t xs b o))))
+  lends_bytes ℓ κ t xs b o room =
+      let Bytes = bytes_at (length xs) t xs b o in
+      let Each = parts (mem u8) (shares u8) t xs b o in
+      qed 𝓛 (‵ Bytes ∷ []) ∵ updating ! $
+      use1 𝓛 (later (‵ (fhide (elements_shared u8 xs b o κ)) ⊛ ‵ (flent κ Bytes)))
+      (Lent-map 𝓛 Bytes Each (elements_shared u8 xs b o) (snd∗ 𝓤 ⟦ feq ℕ (length xs) (length xs) ⟧ ⟦ Each ⟧)
+      (qed 𝓛 (‵ Each ∷ []) {P = ⟦ Bytes ⟧} (feq_i ! ℕ (length xs) (length xs) refl $ done !)) (each_lends 𝓛 u8 (uint_Copied 𝓛 w8) t xs b o) κ) $
+      await ! tt $ split ! $ at_once ! $
+      pure_i ! (shr_slice_at u8 (a_part b o xs) (slice_val (b, o) (length xs) ∷ [])) (tt, (tt, tt)) (refl, room) $ fjoin ! $ done !
 
   pub lends_part : (ℓ : Lifetime) (κ : Lft) (n : ℕ) (t : Share) (xs : List ℕ) (b o : ℕ) (P : SProp 𝓤) → length xs ≡ n → Room u8 n → ent 𝓤 P (Part 𝓤 ⟦ bytes_at n t xs b o ⟧ P)
-      → ent 𝓤 P (H.⇛ (ex 𝓤 (λ (γ : GName). sep 𝓤 ⟦ (ShrSlice ℓ κ u8).own_val (a_part b o xs γ) (slice_val (b, o) n ∷ []) ⟧ (PartLent κ n t xs b o P))))
+      → ent 𝓤 P (H.⇛ (sep 𝓤 ⟦ (ShrSlice ℓ κ u8).own_val (a_part b o xs) (slice_val (b, o) n ∷ []) ⟧ (PartLent κ n t xs b o P)))
   lends_part ℓ κ n t xs b o P e room part =
       qed 𝓛 (raw P ∷ []) ∵ updating ! $ use1 𝓛 (‵ (bytes_at n t xs b o) ⊛ raw (wand 𝓤 ⟦ bytes_at n t xs b o ⟧ P)) part $ split ! $
-      use1 𝓛 (later (some (λ (γ : GName). ‵ ((ShrSlice ℓ κ u8).own_val (a_part b o xs γ) (slice_val (b, o) n ∷ [])) ⊛ ‵ (flent κ (bytes_at n t xs b o))))) lends $ await ! tt $ pick ! (λ γ. split ! $ at_once ! $
-      show ! (λ (γ' : GName). sep 𝓤 ⟦ (ShrSlice ℓ κ u8).own_val (a_part b o xs γ') (slice_val (b, o) n ∷ []) ⟧ (PartLent κ n t xs b o P)) γ $ frame ! $ frame ! $ done !)
+      use1 𝓛 (later (‵ ((ShrSlice ℓ κ u8).own_val (a_part b o xs) (slice_val (b, o) n ∷ [])) ⊛ ‵ (flent κ (bytes_at n t xs b o)))) lends $ await ! tt $ split ! $ at_once ! $
+      frame ! $ frame ! $ done !
     where
-      lends : ent 𝓤 ⟦ bytes_at n t xs b o ⟧ (H.⇛ (ex 𝓤 (λ (γ : GName). sep 𝓤 ⟦ (ShrSlice ℓ κ u8).own_val (a_part b o xs γ) (slice_val (b, o) n ∷ []) ⟧ (A.lent κ (bytes_at n t xs b o)))))
-      lends = subst (λ (m : ℕ). ent 𝓤 ⟦ bytes_at m t xs b o ⟧ (H.⇛ (ex 𝓤 (λ (γ : GName). sep 𝓤 ⟦ (ShrSlice ℓ κ u8).own_val (a_part b o xs γ) (slice_val (b, o) m ∷ []) ⟧ (A.lent κ (bytes_at m t xs b o)))))) e
-          (lends_shr_slice 𝓛 u8 ℓ κ t xs b o (subst (Room u8) (sym e) room))
+      lends : ent 𝓤 ⟦ bytes_at n t xs b o ⟧ (H.⇛ (sep 𝓤 ⟦ (ShrSlice ℓ κ u8).own_val (a_part b o xs) (slice_val (b, o) n ∷ []) ⟧ (A.lent κ (bytes_at n t xs b o))))
+      lends = subst (λ (m : ℕ). ent 𝓤 ⟦ bytes_at m t xs b o ⟧ (H.⇛ (sep 𝓤 ⟦ (ShrSlice ℓ κ u8).own_val (a_part b o xs) (slice_val (b, o) m ∷ []) ⟧ (A.lent κ (bytes_at m t xs b o))))) e
+          (lends_bytes ℓ κ t xs b o (subst (Room u8) (sym e) room))
 
   pub part_back : (κ : Lft) (n : ℕ) (t : Share) (xs : List ℕ) (b o : ℕ) (P : SProp 𝓤) → ent 𝓤 (sep 𝓤 (A.dead κ) (PartLent κ n t xs b o P)) (H.⇛ P)
   part_back κ n t xs b o P =
@@ -172,6 +187,8 @@ module _ {M : Type 1} {𝓤 : Ura M} (𝓛 : Logic 𝓤) where
         at_head : Incl (α ∷ κ) (α ∷ [])
         at_head a m = mem-append_left κ m
 
-    pub shorter-slice : (R : RattleType) (ℓ ℓ' : Lifetime) (x : Bor (List R.Denot)) (vs : List Val) → ent 𝓤 ⟦ (ShrSlice ℓ κ R).own_val x vs ⟧ ⟦ (ShrSlice ℓ' (α ∷ κ) R).own_val x vs ⟧
-    shorter-slice R ℓ ℓ' x vs =
-        qed 𝓛 (‵ ((ShrSlice ℓ κ R).own_val x vs) ∷ []) ∵ fsplit ! $ move ! (1 ∷ []) $ fsplit ! $ move ! (1 ∷ []) $ shr_bor_shorten ! (α ∷ κ) (λ a m. mem-append_right (α ∷ []) m) $ move ! (1 ∷ 0 ∷ []) $ fjoin ! $ move ! (1 ∷ 0 ∷ []) $ fjoin ! $ done !
+    -- of any type whose laws say that what a `&` to it holds is held for less, too
+    pub shorter-slice : (R : RattleType) → RowLaws R → (ℓ ℓ' : Lifetime) (x : Bor (List R.Denot)) (vs : List Val) → ent 𝓤 ⟦ (ShrSlice ℓ κ R).own_val x vs ⟧ ⟦ (ShrSlice ℓ' (α ∷ κ) R).own_val x vs ⟧
+    shorter-slice R laws ℓ ℓ' x vs =
+        mono_r 𝓤 ⟦ shr_slice_at R x vs ⟧
+        (shortens 𝓛 (elements_shared R x.now x.ref_ptr.0 x.ref_ptr.1) (elements_shr_laws R laws x.now x.ref_ptr.0 x.ref_ptr.1) κ (α ∷ κ) (λ a m. mem-append_right (α ∷ []) m))

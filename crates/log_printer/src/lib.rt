@@ -2,92 +2,88 @@
 // What is printed of each buffer is `access_log::render`'s, and proved there.
 #![tactic(auto)]
 
-ghost use Rattle.std.specs.Prelude.{◌+◌, ◌≤◌, length};
+ghost use Rattle.std.specs.Prelude.{◌+◌, ◌≤◌, length, IfOk};
 ghost use Rattle.io.specs.Counts.{IsPrefixLen};
 
-use libc::{STDIN_FILENO, STDOUT_FILENO};
+use std::io::{Read, Result, Write, writer};
 
-// What one read brought: no bytes at the end of the input, or where it failed.
-#[derive(Clone, Copy)]
-struct Got {
-    count: usize,
-    failed: bool,
-}
+// Room for 512 records, and for their text.
+const ROOM: usize = 4096;
+
+const TEXT: usize = 7200;
 
 // How far a buffer was filled.
-#[derive(Clone, Copy)]
+#[derive(Drop)]
 struct Filled {
     len: usize,
-    // The input may go on: the buffer is full and no read failed.
-    more: bool,
+    // Whether the input may go on, since the buffer is full; or the read that failed.
+    more: Result<bool>,
 }
 
 // Prints the log on standard input until it ends, a record is refused, or a read or a write fails.
-// A proved loop has to end, and nothing says that the input does: the turns count down from a
-// number that no run uses up, 2^64 buffers of 512 records.
-pub fn print_input() {
-    let mut number: u64 = 0;
-    let mut turns = u64::MAX;
-    while turns > 0 && print_buffer(number) {
-        number = std::num::wrapping_add_u64(number, 512);
-        turns -= 1;
-    }
+pub fn print_input(rt: &(impl Input + Print)) -> Result<()> {
+    print_log(&mut rt.reader(), &mut writer(rt))
 }
 
-// Reads a buffer and prints it, where its first record has a number, and answers whether to go on.
-fn print_buffer(number: u64) -> bool {
-    let mut input = io::buffer();
-    let filled = fill(&mut input);
-    let len = filled.len;
-    let mut text = [0u8; 7200];
-    let rendered = access_log::render(&input[..len], number, &mut text);
-    let n = rendered.len;
-    if !io::write_all(STDOUT_FILENO, &text[..n]) {
-        os::fail(b"standard output");
-        return false;
+// Prints the log that a reader gives. A proved loop has to end, and nothing says that the input does:
+// the turns are a number that no run uses up, 2^64 buffers of 512 records.
+pub fn print_log<R: Read, W: Write>(input: &mut R, output: &mut W) -> Result<()> {
+    let mut number: u64 = 0;
+    for _ in 0..u64::MAX {
+        if !print_buffer(input, output, number)? {
+            break;
+        }
+        number = number.wrapping_add(512);
     }
-    filled.more && rendered.more
+    Ok(())
+}
+
+// Reads a buffer and prints it, where its first record has a number, and answers whether to go on. Where
+// a read fails, what it brought before is printed first.
+fn print_buffer<R: Read, W: Write>(input: &mut R, output: &mut W, number: u64) -> Result<bool> {
+    let mut bytes = [0u8; ROOM];
+    let filled = fill(input, &mut bytes);
+    let mut text = [0u8; TEXT];
+    let rendered = access_log::render(&bytes[..filled.len], number, &mut text);
+    output.write_all(&text[..rendered.len])?;
+    let more = filled.more?;
+    Ok(more && rendered.more)
 }
 
 // Reads until the buffer is full, since a record may lie across two reads, or the input ends.
-fn fill(buf: &mut [u8]) -> Filled
+fn fill<R: Read>(input: &mut R, buf: &mut [u8]) -> Filled
     ensures counts { IsPrefixLen result.len buf.new }
 {
     let mut done = 0;
     while done < buf.len() {
-        let got = read_from(buf, done);
-        let count = got.count;
-        if count == 0 {
-            return Filled {
-                len: kept(done, got.failed),
-                more: false,
-            };
+        match read_from(input, buf, done) {
+            Ok(0) => {
+                return Filled {
+                    len: kept(done, false),
+                    more: Ok(false),
+                };
+            }
+            Ok(count) => done += count,
+            Err(error) => {
+                return Filled {
+                    len: kept(done, true),
+                    more: Err(error),
+                };
+            }
         }
-        done += count;
     }
     Filled {
         len: done,
-        more: true,
+        more: Ok(true),
     }
 }
 
-// One read into the buffer from an index on. One that fails is reported.
-fn read_from(buf: &mut [u8], from: usize) -> Got
+// One read into the buffer from an index on. It brings no bytes at the end of the input.
+fn read_from<R: Read>(input: &mut R, buf: &mut [u8], from: usize) -> Result<usize>
     requires { from ≤ length buf.old }
-    ensures within { from + result.count ≤ length buf.new }
+    ensures within { IfOk result (λ count. from + count ≤ length buf.new) }
 {
-    let got = libc::read(STDIN_FILENO, &mut buf[from..]);
-    if got < 0 {
-        os::fail(b"standard input");
-        return Got {
-            count: 0,
-            failed: true,
-        };
-    }
-    Got {
-        count: io::count(got, &buf[from..]),
-        failed: false,
-    }
+    input.read(&mut buf[from..])
 }
 
 // The bytes that count: where a read failed, no short record is made of what it cut off.

@@ -1,6 +1,6 @@
 // The log printer on an empty log, which prints nothing.
 #![tactic(auto)]
 
-fn main() {
-    log_printer::print_input();
+fn main(rt: HostRuntime) -> std::io::Result<()> {
+    log_printer::print_input(&rt)
 }

@@ -1,6 +1,6 @@
 // The log printer on a log of 1,100 records, more than two buffers, that ends in a short record.
 #![tactic(auto)]
 
-fn main() {
-    log_printer::print_input();
+fn main(rt: HostRuntime) -> std::io::Result<()> {
+    log_printer::print_input(&rt)
 }
