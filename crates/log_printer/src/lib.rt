@@ -1,9 +1,12 @@
 // The log printer: standard input, a log of little-endian records, to lines on standard output.
-// What is printed of each buffer is `access_log::render`'s, and proved there.
+// Of a reader and a writer whose bytes are known, what is printed is proved to be the log's text,
+// `log_text` of access_log. No contract can say what standard input gives and standard output takes.
 #![tactic(auto)]
 
-ghost use Rattle.std.specs.Prelude.{◌+◌, ◌≤◌, length, IfOk};
+ghost use Rattle.std.specs.Prelude.{◌≡◌, ℕ, List, ◌+◌, ◌*◌, ◌%◌, ◌<◌, ◌≤◌, ◌++◌, length, take, drop, true, false, IfOk, IfErr, OnOk};
+ghost use Rattle.std.specs.Io.KnownBytes.{Consumes, ReadConsumes, IsAtEnd};
 ghost use Rattle.io.specs.Counts.{IsPrefixLen};
+ghost use Rattle.log_printer.specs.Printed.{PrintsAll, PrintsLog, PrintsPart};
 
 use std::io::{Read, Result, Write, writer};
 
@@ -25,13 +28,16 @@ pub fn print_input(rt: &(impl Input + Print)) -> Result<()> {
     print_log(&mut rt.reader(), &mut writer(rt))
 }
 
-// Prints the log that a reader gives. A proved loop has to end, and nothing says that the input does:
-// the turns are a number that no run uses up, 2^64 buffers of 512 records.
-pub fn print_log<R: Read, W: Write>(input: &mut R, output: &mut W) -> Result<()> {
+// Prints the log that a reader gives, until it ends or a record is refused. A proved loop has to end, and
+// nothing says that the input does: the turns are a number that no run uses up, 2^64 buffers of 512 records.
+pub fn print_log<R: Read, W: Write>(input: &mut R, output: &mut W) -> Result<()>
+    ensures text { OnOk result
+        (PrintsLog (R.remaining input.old) (W.contents output.old) (W.contents output.new)) }
+{
     let mut number: u64 = 0;
-    for _ in 0..u64::MAX {
+    for turn in 0..u64::MAX {
         if !print_buffer(input, output, number)? {
-            break;
+            return Ok(());
         }
         number = number.wrapping_add(512);
     }
@@ -39,8 +45,14 @@ pub fn print_log<R: Read, W: Write>(input: &mut R, output: &mut W) -> Result<()>
 }
 
 // Reads a buffer and prints it, where its first record has a number, and answers whether to go on. Where
-// a read fails, what it brought before is printed first.
-fn print_buffer<R: Read, W: Write>(input: &mut R, output: &mut W, number: u64) -> Result<bool> {
+// a read fails, the records read whole before it are printed first.
+fn print_buffer<R: Read, W: Write>(input: &mut R, output: &mut W, number: u64) -> Result<bool>
+    ensures all { IfOk result (λ more. more ≡ false →
+        PrintsAll (R.remaining input.old) (W.contents output.old) (W.contents output.new) number) }
+    ensures part { IfOk result (λ more. more ≡ true →
+        PrintsPart (R.remaining input.old) (R.remaining input.new)
+        (W.contents output.old) (W.contents output.new) number) }
+{
     let mut bytes = [0u8; ROOM];
     let filled = fill(input, &mut bytes);
     let mut text = [0u8; TEXT];
@@ -53,6 +65,14 @@ fn print_buffer<R: Read, W: Write>(input: &mut R, output: &mut W, number: u64) -
 // Reads until the buffer is full, since a record may lie across two reads, or the input ends.
 fn fill<R: Read>(input: &mut R, buf: &mut [u8]) -> Filled
     ensures counts { IsPrefixLen result.len buf.new }
+    ensures bytes { OnOk result.more
+        (Consumes (R.remaining input.old) (R.remaining input.new) (take result.len buf.new)) }
+    ensures full { IfOk result.more (λ more. more ≡ true → result.len ≡ length buf.new) }
+    ensures end { IfOk result.more (λ more. more ≡ false →
+        (result.len < length buf.new) × IsAtEnd (R.remaining input.new)) }
+    ensures whole { IfErr result.more (λ error. result.len % 8 ≡ 0) }
+    ensures cut { IfErr result.more (λ error. (rest : List ℕ) × (length rest < 8)
+        × Consumes (R.remaining input.old) (R.remaining input.new) (take result.len buf.new ++ rest)) }
 {
     let mut done = 0;
     while done < buf.len() {
@@ -82,6 +102,8 @@ fn fill<R: Read>(input: &mut R, buf: &mut [u8]) -> Filled
 fn read_from<R: Read>(input: &mut R, buf: &mut [u8], from: usize) -> Result<usize>
     requires { from ≤ length buf.old }
     ensures within { IfOk result (λ count. from + count ≤ length buf.new) }
+    ensures before { take from buf.new ≡ take from buf.old }
+    ensures bytes { ReadConsumes (R.remaining input.old) (R.remaining input.new) result (drop from buf.new) }
 {
     input.read(&mut buf[from..])
 }
@@ -89,6 +111,8 @@ fn read_from<R: Read>(input: &mut R, buf: &mut [u8], from: usize) -> Result<usiz
 // The bytes that count: where a read failed, no short record is made of what it cut off.
 fn kept(done: usize, failed: bool) -> usize
     ensures most { result ≤ done }
+    ensures all { failed ≡ false → result ≡ done }
+    ensures whole { failed ≡ true → (result % 8 ≡ 0) × (done < result + 8) }
 {
     if failed { done - done % 8 } else { done }
 }
