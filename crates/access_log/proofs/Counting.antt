@@ -32,14 +32,14 @@ module _ (log : List ℕ) where
       one_fewer : t.k ≡ suc (t.k - 1)
       one_fewer = omega (arith, below)
 
-      pub left-on : first_other (t.k - 1) (entry_at log) (t.n + 1) ≡ accesses_in log
-      left-on =
+      pub left_on : first_other (t.k - 1) (entry_at log) (t.n + 1) ≡ accesses_in log
+      left_on =
           ap (first_other (t.k - 1) (entry_at log)) (add-one t.n)
           ∙ (sym (first_on (entry_at log) (t.k - 1) t.n e)
           ∙ (ap (λ (k : ℕ). first_other k (entry_at log) t.n) (sym one_fewer) ∙ t.left))
 
       abbrev pub moves : State
-      moves = record { k = t.k - 1; n = t.n + 1; sum = omega (arith, below); left = left-on }
+      moves = record { k = t.k - 1; n = t.n + 1; sum = omega (arith, below); left = left_on }
 
       pub nearer : t.k - 1 < t.k
       nearer = omega (arith, below)

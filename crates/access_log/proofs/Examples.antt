@@ -27,15 +27,15 @@ one_leads = refl
 
 -- ---- the premises of the laws can be met
 
--- of `reads-back`: accesses of registers
+-- of `reads_back`: accesses of registers
 pub loggable_accesses : Loggable (Read 0x04 0x10 ∷ Write 0x80 0x06 ∷ [])
 loggable_accesses = (record { fourth = refl; byte = omega arith }, (record { fourth = refl; byte = omega arith }, tt))
 
--- of `reader-reads-back` and of `reader-ends`: a reader at the start of a log
+-- of `reader_reads_back` and of `reader_ends`: a reader at the start of a log
 pub starting_reader : (log : List ℕ) → (r : LogReader) × ((r.log.now ≡ log) × (r.at ≡ 0))
 starting_reader log = (record { log = record { ref_ptr = (0, 0); now = log }; at = 0 }, (refl, refl))
 
--- of `text-of-parts` and of `text-stops`: a record that is an access, and one that is none
+-- of `text_of_parts` and of `text_stops`: a record that is an access, and one that is none
 pub all_accesses_lem : all_accesses 1 (entry_in (bytes_of (0x80 ∷ 0x06 ∷ []))) 0 ≡ true
 unfolding all_accesses entry_in bytes_of
 all_accesses_lem = refl

@@ -79,9 +79,9 @@ module _ {M : Type 1} {𝓤 : Ura M} (𝓛 : Logic 𝓤) where
         use1 𝓛 (raw (wand 𝓤 (sep 𝓤 ⟦ fat q τ b (o + up (align τ) zero) v ⟧ (emp 𝓤)) ⟦ fat q (ty_struct ν (tcons τ tnil)) b o (vstruct (vcons v vnil)) ⟧)) (all_e 𝓤 (λ (us : Vals). wand 𝓤 (fields_at 𝓤 H q (tcons τ tnil) zero b o us) (H.at q (ty_struct ν (tcons τ tnil)) b o (vstruct us))) (vcons v vnil)) $
         move ! (1 ∷ []) $ split ! $ frame ! $ assume ! (‵ (fat q τ b (o + up (align τ) zero) v)) $ join ! $ use2 𝓛 (‵ (fat q (ty_struct ν (tcons τ tnil)) b o (vstruct (vcons v vnil)))) (apply∗ 𝓤 (sep 𝓤 ⟦ fat q τ b (o + up (align τ) zero) v ⟧ (emp 𝓤)) ⟦ fat q (ty_struct ν (tcons τ tnil)) b o (vstruct (vcons v vnil)) ⟧) $ done !
 
-    pub second-field : (σ τ : Ty) (u v : Val) → ent 𝓤 ⟦ fat q (ty_struct ν (tcons σ (tcons τ tnil))) b o (vstruct (vcons u (vcons v vnil))) ⟧
+    pub second_field : (σ τ : Ty) (u v : Val) → ent 𝓤 ⟦ fat q (ty_struct ν (tcons σ (tcons τ tnil))) b o (vstruct (vcons u (vcons v vnil))) ⟧
         (Part 𝓤 ⟦ fat q τ b (o + second_at σ τ) v ⟧ ⟦ fat q (ty_struct ν (tcons σ (tcons τ tnil))) b o (vstruct (vcons u (vcons v vnil))) ⟧)
-    second-field σ τ u v =
+    second_field σ τ u v =
         qed 𝓛 (‵ (fat q (ty_struct ν (tcons σ (tcons τ tnil))) b o (vstruct (vcons u (vcons v vnil)))) ∷ []) ∵
         use1 𝓛 ((‵ (fat q σ b (o + up (align σ) zero) u) ⊛ ‵ (fat q τ b (o + second_at σ τ) v) ⊛ raw (emp 𝓤)) ⊛ raw (Back (tcons σ (tcons τ tnil)))) (𝓛.laws.at_fields q ν (tcons σ (tcons τ tnil)) b o (vcons u (vcons v vnil))) $ split ! $ move ! (1 ∷ []) $
         use1 𝓛 (raw (wand 𝓤 (sep 𝓤 ⟦ fat q σ b (o + up (align σ) zero) u ⟧ (sep 𝓤 ⟦ fat q τ b (o + second_at σ τ) v ⟧ (emp 𝓤))) ⟦ fat q (ty_struct ν (tcons σ (tcons τ tnil))) b o (vstruct (vcons u (vcons v vnil))) ⟧)) (all_e 𝓤 (λ (us : Vals). wand 𝓤 (fields_at 𝓤 H q (tcons σ (tcons τ tnil)) zero b o us) (H.at q (ty_struct ν (tcons σ (tcons τ tnil))) b o (vstruct us))) (vcons u (vcons v vnil))) $
@@ -126,11 +126,11 @@ module _ {M : Type 1} {𝓤 : Ura M} (𝓛 : Logic 𝓤) where
     abbrev Inner : SProp 𝓤
     Inner = ⟦ fat q τL b (o + second_at σ τL) (vstruct (vcons v vnil)) ⟧
 
-    pub bytes-in-second : Is (Array u8 n) xs (v ∷ []) → ent 𝓤 Whole (Part 𝓤 Bytes Whole)
-    bytes-in-second is =
+    pub bytes_in_second : Is (Array u8 n) xs (v ∷ []) → ent 𝓤 Whole (Part 𝓤 Bytes Whole)
+    bytes_in_second is =
         within Bytes Inner Whole
         (within Bytes ⟦ fat q τA b (o + second_at σ τL + up (align τA) zero) v ⟧ Inner (bytes_part n q xs v b (o + second_at σ τL + up (align τA) zero) is) (one_field q μ b (o + second_at σ τL) τA v))
-        (second-field q ν b o σ τL u (vstruct (vcons v vnil)))
+        (second_field q ν b o σ τL u (vstruct (vcons v vnil)))
 
   -- ---- lent
 
@@ -175,20 +175,20 @@ module _ {M : Type 1} {𝓤 : Ura M} (𝓛 : Logic 𝓤) where
     abbrev pub Beside : SProp 𝓤
     Beside = wand 𝓤 (A.lft (α ∷ κ) q) (sep 𝓤 (A.lft (α ∷ []) full_share) (A.lft κ q))
 
-    pub lft-beside : ent 𝓤 (sep 𝓤 (A.lft (α ∷ []) full_share) (A.lft κ q)) (sep 𝓤 (A.lft (α ∷ κ) q) Beside)
-    lft-beside =
+    pub lft_beside : ent 𝓤 (sep 𝓤 (A.lft (α ∷ []) full_share) (A.lft κ q)) (sep 𝓤 (A.lft (α ∷ κ) q) Beside)
+    lft_beside =
         qed 𝓛 (‵ (flft (α ∷ []) full_share) ∷ ‵ (flft κ q) ∷ []) ∵ use1 𝓛 (‵ (flft (α ∷ []) q) ⊛ raw (wand 𝓤 (A.lft (α ∷ []) q) (A.lft (α ∷ []) full_share))) (𝓛.lfts.lft_carve α q) $ split ! $
         move ! (0 ∷ 2 ∷ []) $ use2 𝓛 (‵ (flft (α ∷ κ) q)) (𝓛.lfts.lft_meet (α ∷ []) κ q) $ frame ! $ assume ! (‵ (flft (α ∷ κ) q)) $
         use1 𝓛 (‵ (flft (α ∷ []) q) ⊛ ‵ (flft κ q)) (𝓛.lfts.lft_unmeet (α ∷ []) κ q) $ split ! $ move ! (0 ∷ 2 ∷ []) $ use2 𝓛 (‵ (flft (α ∷ []) full_share)) (apply∗ 𝓤 (A.lft (α ∷ []) q) (A.lft (α ∷ []) full_share)) $ done !
 
-    pub dead-beside : ent 𝓤 (A.dead (α ∷ [])) (A.dead (α ∷ κ))
-    dead-beside = 𝓛.lfts.dead-incl (α ∷ κ) (α ∷ []) at_head
+    pub dead_beside : ent 𝓤 (A.dead (α ∷ [])) (A.dead (α ∷ κ))
+    dead_beside = 𝓛.lfts.dead-incl (α ∷ κ) (α ∷ []) at_head
       where
         at_head : Incl (α ∷ κ) (α ∷ [])
         at_head a m = mem-append_left κ m
 
     -- of any type whose laws say that what a `&` to it holds is held for less, too
-    pub shorter-slice : (R : RattleType) → RowLaws R → (ℓ ℓ' : Lifetime) (x : Bor (List R.Denot)) (vs : List Val) → ent 𝓤 ⟦ (ShrSlice ℓ κ R).own_val x vs ⟧ ⟦ (ShrSlice ℓ' (α ∷ κ) R).own_val x vs ⟧
-    shorter-slice R laws ℓ ℓ' x vs =
+    pub shorter_slice : (R : RattleType) → RowLaws R → (ℓ ℓ' : Lifetime) (x : Bor (List R.Denot)) (vs : List Val) → ent 𝓤 ⟦ (ShrSlice ℓ κ R).own_val x vs ⟧ ⟦ (ShrSlice ℓ' (α ∷ κ) R).own_val x vs ⟧
+    shorter_slice R laws ℓ ℓ' x vs =
         mono_r 𝓤 ⟦ shr_slice_at R x vs ⟧
         (shortens 𝓛 (elements_shared R x.now x.ref_ptr.0 x.ref_ptr.1) (elements_shr_laws R laws x.now x.ref_ptr.0 x.ref_ptr.1) κ (α ∷ κ) (λ a m. mem-append_right (α ∷ []) m))

@@ -1,4 +1,4 @@
--- The watch of the log of a row of saves, which `shows-row` is about: that log is the words of the saves, one behind the other, and under the premises
+-- The watch of the log of a row of saves, which `shows_row` is about: that log is the words of the saves, one behind the other, and under the premises
 -- of the power-cut statement its counts are exact and at most one chunk is in doubt. Assumes nothing.
 use Rattle.std.proofs.Common.{◌≡◌, ℕ, ◌+◌, ◌^◌, ◌<◌, ◌≤◌, List, [], ◌∷◌, ◌++◌, length, take, refl, ap, ◌∙◌, arith, length-append}
 use Rattle.zynq7000.specs.Access.{encode}

@@ -1,5 +1,5 @@
 -- Reading the log that a run wrote gives that run's accesses, place by place, and behind them the used words end. It holds of every script
--- whose writes go to registers, so of every call (`calls-on-registers`). Assumes nothing.
+-- whose writes go to registers, so of every call (`calls_on_registers`). Assumes nothing.
 use Rattle.std.proofs.Common.{◌≡◌, ℕ, ◌*◌, ◌<◌, ◌≤◌, List, [], length, get_or, take, drop, append-nil, arith}
 use Rattle.zynq7000.specs.Access.{encode}
 use Rattle.zynq7000.specs.declared.qspi.Access.{Access}
@@ -36,8 +36,8 @@ module _ {s : Script} (p : OnRegisters s) (room : ℕ) (replies log : List ℕ) 
   -- a reader at the start of the lent log
   module _ (d : Access) (r : LogReader) (is : r.log.now ≡ logged_of result log) (from : r.at ≡ 0) where
     -- THEOREM. It gives the run's accesses in order, the k-th from the place k.
-    pub run-read : (k : ℕ) → k < length result.log → (next_of (read_times k r) ≡ entry.Access (get_or result.log k d)) × ((read_times k r).at ≡ k)
-    run-read = reader_reads_back d (drop (2 * length result.log) log) result.log (runs_on_registers p room replies) r is from
+    pub run_read : (k : ℕ) → k < length result.log → (next_of (read_times k r) ≡ entry.Access (get_or result.log k d)) × ((read_times k r).at ≡ k)
+    run_read = reader_reads_back d (drop (2 * length result.log) log) result.log (runs_on_registers p room replies) r is from
 
   -- THEOREM. The used words have as many accesses as the run made.
   pub run_accesses : accesses_in (take (ran_of result).used (logged_of result log)) ≡ length result.log

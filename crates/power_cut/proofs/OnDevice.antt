@@ -243,36 +243,36 @@ module _ (early : List Chunk) (old : Array) where
   stage_ends disables taken c l k f e u y h = absurd y
 
   module _ (whole : List Chunk) (s : Stage) (taken : List ℕ) (c : Chunk) (l : List Chunk) (k : Past) (f : Flash) where
-    going-last : {d : Device} {a : Access} → Going whole s leaving taken c l k → FlashAt s true (applied (early ++ k.chunks) old) c f → Held (Known s f) (width s) (transfer_of s c) leaving taken f d → Matches (want_at (midway leaving) (action (transfer_of s c) leaving)) a
+    going_last : {d : Device} {a : Access} → Going whole s leaving taken c l k → FlashAt s true (applied (early ++ k.chunks) old) c f → Held (Known s f) (width s) (transfer_of s c) leaving taken f d → Matches (want_at (midway leaving) (action (transfer_of s c) leaving)) a
         → OnDevice early old (stage_after s taken c l k) (effect d a)
     unfolding effect after_write register_at
-    going-last g y (held (c_leave u h)) m_write = stage_ends s taken c l k f g.count u y h
+    going_last g y (held (c_leave u h)) m_write = stage_ends s taken c l k f g.count u y h
 
-    going-inner : (p : Phase) {d : Device} {a : Access} → is_last p ≡ false → Fit c → FlashAt s (is_last p) (applied (early ++ k.chunks) old) c f → Held (Known s f) (width s) (transfer_of s c) p taken f d
+    going_inner : (p : Phase) {d : Device} {a : Access} → is_last p ≡ false → Fit c → FlashAt s (is_last p) (applied (early ++ k.chunks) old) c f → Held (Known s f) (width s) (transfer_of s c) p taken f d
         → Matches (want_at (midway p) (action (transfer_of s c) p)) a → Gives d a
         → OnDevice early old (at s (phase_after (transfer_of s c) p (value_word a)) (taken_after p taken (value_word a)) c l k) (effect d a)
-    going-inner p {a = a} e i y (held z) m g =
+    going_inner p {a = a} e i y (held z) m g =
         inner s taken c l k f p (value_word a) e i (rw e at y) (accessed (Known s f) (width s) (transfer_of s c) f (port_is s c) (reply_each s c i) z m g)
 
-    going-access : (p : Phase) {d : Device} {a : Access} → Going whole s p taken c l k → FlashAt s (is_last p) (applied (early ++ k.chunks) old) c f → Held (Known s f) (width s) (transfer_of s c) p taken f d
+    going_access : (p : Phase) {d : Device} {a : Access} → Going whole s p taken c l k → FlashAt s (is_last p) (applied (early ++ k.chunks) old) c f → Held (Known s f) (width s) (transfer_of s c) p taken f d
         → Matches (want_at (midway p) (action (transfer_of s c) p)) a → Gives d a
         → OnDevice early old (driver_after (at s p taken c l k) (value_word a)) (effect d a)
     unfolding driver_after
-    going-access draining q y h m g = going-inner draining refl q.fits y h m g
-    going-access dropping q y h m g = going-inner dropping refl q.fits y h m g
-    going-access opening q y h m g = going-inner opening refl q.fits y h m g
-    going-access (lowering e) q y h m g = going-inner (lowering e) refl q.fits y h m g
-    going-access switching q y h m g = going-inner switching refl q.fits y h m g
-    going-access (sending e w t) q y h m g = going-inner (sending e w t) refl q.fits y h m g
-    going-access starting q y h m g = going-inner starting refl q.fits y h m g
-    going-access (releasing e) q y h m g = going-inner (releasing e) refl q.fits y h m g
-    going-access (waiting e) q y h m g = going-inner (waiting e) refl q.fits y h m g
-    going-access (again e) q y h m g = going-inner (again e) refl q.fits y h m g
-    going-access (taking e) q y h m g = going-inner (taking e) refl q.fits y h m g
-    going-access closing q y h m g = going-inner closing refl q.fits y h m g
-    going-access (raising e) q y h m g = going-inner (raising e) refl q.fits y h m g
-    going-access leaving q y h m g = going-last q y h m
+    going_access draining q y h m g = going_inner draining refl q.fits y h m g
+    going_access dropping q y h m g = going_inner dropping refl q.fits y h m g
+    going_access opening q y h m g = going_inner opening refl q.fits y h m g
+    going_access (lowering e) q y h m g = going_inner (lowering e) refl q.fits y h m g
+    going_access switching q y h m g = going_inner switching refl q.fits y h m g
+    going_access (sending e w t) q y h m g = going_inner (sending e w t) refl q.fits y h m g
+    going_access starting q y h m g = going_inner starting refl q.fits y h m g
+    going_access (releasing e) q y h m g = going_inner (releasing e) refl q.fits y h m g
+    going_access (waiting e) q y h m g = going_inner (waiting e) refl q.fits y h m g
+    going_access (again e) q y h m g = going_inner (again e) refl q.fits y h m g
+    going_access (taking e) q y h m g = going_inner (taking e) refl q.fits y h m g
+    going_access closing q y h m g = going_inner closing refl q.fits y h m g
+    going_access (raising e) q y h m g = going_inner (raising e) refl q.fits y h m g
+    going_access leaving q y h m g = going_last q y h m
 
   pub advance : (whole : List Chunk) {s : Driver} {d : Device} {a : Access} → Good whole s → OnDevice early old s d → Matches (want (state_of s)) a → Gives d a → OnDevice early old (driver_after s (value_word a)) (effect d a)
-  advance whole q (during {s} {p} {taken} {c} {l} {k} {f} y h) m g = going-access whole s taken c l k f p q y h m g
+  advance whole q (during {s} {p} {taken} {c} {l} {k} {f} y h) m g = going_access whole s taken c l k f p q y h m g
   advance whole q (ended {a = a} {l = l} {k = k} {c = c} {w = w} {r = r} {f = f} _ _ _) m g = elim m [ ]

@@ -92,33 +92,33 @@ module _ (x : machine.Transfer) (width : ℕ) (q₀ q₁ k : List ℕ) where
     ends_with false reply = names reply
 
     -- THEOREM. Of an access of a transfer that is due, and not its last, the observer sees what the next phase shows.
-    pub watch-in : (p : Phase) (taken : List ℕ) (h : Bool) (a : Access) → is_last p ≡ false → Split x p → Taken x p taken → Matches (want_at (midway p) (action x p)) a
+    pub watch_in : (p : Phase) (taken : List ℕ) (h : Bool) (a : Access) → is_last p ≡ false → Split x p → Taken x p taken → Matches (want_at (midway p) (action x p)) a
         → Within (phase_after x p (value_word a)) (taken_after p taken (value_word a)) (see (view_in p taken h) a)
     unfolding see seen_read seen_write config_written enable_written register_at phase_after raised
-    watch-in draining taken h (access.Read o v) e s t m_read = either (waits v) dropping opening taken (same dropping taken h refl) (same opening taken h refl)
-    watch-in dropping taken h a e s t m_read = same draining taken h refl
-    watch-in opening taken h (access.Read o v) e s t m_read = same (lowering v) taken h refl
-    watch-in (lowering w) taken h a e s t m_write = same switching taken h (rw (high_clear w))
-    watch-in switching taken h a e s t m_write = same (sending [] x.command x.further) taken h (rw t)
-    watch-in (sending q w l) taken h a e s t m_write = rw port (sent_view q w l taken h s)
-    watch-in starting taken h (access.Read o v) e s t m_read = same (releasing v) taken h refl
-    watch-in (releasing w) taken h a e s t m_write = rw (starts_with (high (started w)) (newest taken)) (take_view x.replies taken (high (started w)))
-    watch-in (waiting n) taken h (access.Read o v) e s t m_read =
+    watch_in draining taken h (access.Read o v) e s t m_read = either (waits v) dropping opening taken (same dropping taken h refl) (same opening taken h refl)
+    watch_in dropping taken h a e s t m_read = same draining taken h refl
+    watch_in opening taken h (access.Read o v) e s t m_read = same (lowering v) taken h refl
+    watch_in (lowering w) taken h a e s t m_write = same switching taken h (rw (high_clear w))
+    watch_in switching taken h a e s t m_write = same (sending [] x.command x.further) taken h (rw t)
+    watch_in (sending q w l) taken h a e s t m_write = rw port (sent_view q w l taken h s)
+    watch_in starting taken h (access.Read o v) e s t m_read = same (releasing v) taken h refl
+    watch_in (releasing w) taken h a e s t m_write = rw (starts_with (high (started w)) (newest taken)) (take_view x.replies taken (high (started w)))
+    watch_in (waiting n) taken h (access.Read o v) e s t m_read =
         either (waits v) (cond x.twice (again n) (taking n)) (waiting n) taken (either x.twice (again n) (taking n) taken (same (again n) taken h refl) (same (taking n) taken h refl)) (same (waiting n) taken h refl)
-    watch-in (again n) taken h (access.Read o v) e s t m_read = either (waits v) (taking n) (waiting n) taken (same (taking n) taken h refl) (same (waiting n) taken h refl)
-    watch-in (taking n) taken h (access.Read o v) e s t m_read = take_view n (v ∷ taken) h
-    watch-in closing taken h (access.Read o v) e s t m_read = same (raising v) taken h refl
-    watch-in (raising w) taken h a e s t m_write = same leaving taken h (rw (high_put w, ends_with h (newest taken)))
-    watch-in leaving taken h a e s t m = absurd (true≢false e)
+    watch_in (again n) taken h (access.Read o v) e s t m_read = either (waits v) (taking n) (waiting n) taken (same (taking n) taken h refl) (same (waiting n) taken h refl)
+    watch_in (taking n) taken h (access.Read o v) e s t m_read = take_view n (v ∷ taken) h
+    watch_in closing taken h (access.Read o v) e s t m_read = same (raising v) taken h refl
+    watch_in (raising w) taken h a e s t m_write = same leaving taken h (rw (high_put w, ends_with h (newest taken)))
+    watch_in leaving taken h a e s t m = absurd (true≢false e)
 
 -- ---- a stage of a sector
-    watch-in draining taken h (access.Write _ _) e s t m = elim m [ ]
-    watch-in opening taken h (access.Write _ _) e s t m = elim m [ ]
-    watch-in starting taken h (access.Write _ _) e s t m = elim m [ ]
-    watch-in (waiting n) taken h (access.Write _ _) e s t m = elim m [ ]
-    watch-in (again n) taken h (access.Write _ _) e s t m = elim m [ ]
-    watch-in (taking n) taken h (access.Write _ _) e s t m = elim m [ ]
-    watch-in closing taken h (access.Write _ _) e s t m = elim m [ ]
+    watch_in draining taken h (access.Write _ _) e s t m = elim m [ ]
+    watch_in opening taken h (access.Write _ _) e s t m = elim m [ ]
+    watch_in starting taken h (access.Write _ _) e s t m = elim m [ ]
+    watch_in (waiting n) taken h (access.Write _ _) e s t m = elim m [ ]
+    watch_in (again n) taken h (access.Write _ _) e s t m = elim m [ ]
+    watch_in (taking n) taken h (access.Write _ _) e s t m = elim m [ ]
+    watch_in closing taken h (access.Write _ _) e s t m = elim m [ ]
 
 -- "One-byte commands use 80; status and config reads .. use 84", erases use 1C
 abbrev pub width : Stage → ℕ
@@ -233,7 +233,7 @@ module _ (whole : List ℕ) where
       → Watched whole (next (state_of (at s p taken a l k)) (value_word c)) (see (view_at s a k p taken h) c)
   at_watched s p taken a l k h c the_last g m = last_watched s taken a l k h c g m
   at_watched s p taken a l k h c (goes_on e) g m =
-      let w = watch-in (transfer_of s a) (width s) (doubt_before s a) (doubt_after s a) k (port_is s a) (λ reply. rise_names s a reply g.in_range.0) p taken h c e g.split g.count m in
+      let w = watch_in (transfer_of s a) (width s) (doubt_before s a) (doubt_after s a) k (port_is s a) (λ reply. rise_names s a reply g.in_range.0) p taken h c e g.split g.count m in
       record {
         driver = at s (phase_after (transfer_of s a) p (value_word c)) (taken_after p taken (value_word c)) a l k;
         level = w.level;

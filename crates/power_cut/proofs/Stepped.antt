@@ -113,8 +113,8 @@ module _ (a : ℕ) (bs : List ℕ) where
     as_long : length log₁ ≡ length log
     as_long = ap length log_is ∙ length-sets log (2 * length p.made) (encode l)
 
-    used-words : 2 * length q.made ≤ length log → take (2 * length p.made) log ≡ encode p.made → take (2 * length q.made) log₁ ≡ encode q.made
-    used-words short is_log =
+    used_words : 2 * length q.made ≤ length log → take (2 * length p.made) log ≡ encode p.made → take (2 * length q.made) log₁ ≡ encode q.made
+    used_words short is_log =
         let more : length q.made ≡ length p.made + length l = ap length made ∙ length-append p.made l in
         let k₀ = length_encode p.made in
         let k₁ = length_encode l in
@@ -124,12 +124,12 @@ module _ (a : ℕ) (bs : List ℕ) where
         ap (take (2 * length q.made)) y ∙ take_at (take (2 * length p.made) log ++ encode l) _ (2 * length q.made) u
         ∙ ap (λ (z : List ℕ). z ++ encode l) is_log ∙ sym (encode_append p.made l) ∙ ap encode (sym made)
 
-    saving-on : {o₁ : Op} → ((i : ℕ) → get_or bs i 0 < 256) → Stands (begin (write_pages a bs) [] 0) (length log) q → Follows (lending bs log) q o₁ → take (2 * length p.made) log ≡ encode p.made → Saving a bs o₁ log₁
-    saving-on {o₁} octets s f is_log =
+    saving_on : {o₁ : Op} → ((i : ℕ) → get_or bs i 0 < 256) → Stands (begin (write_pages a bs) [] 0) (length log) q → Follows (lending bs log) q o₁ → take (2 * length p.made) log ≡ encode p.made → Saving a bs o₁ log₁
+    saving_on {o₁} octets s f is_log =
         saving_at q o₁ log₁ octets
         (subst (λ (n : ℕ). Stands (begin (write_pages a bs) [] 0) n q) (sym as_long) s)
         (subst (λ (n : ℕ). Follows (record { bytes = bs; buffer = []; room = n }) q o₁) (sym as_long) f)
-        (used-words s.short is_log)
+        (used_words s.short is_log)
 
 -- lent other memory, or after its end, a step and a run leave all as it was
 module _ (o : Op) (bytes buffer log : List ℕ) {s : Stepped} {buffer₁ log₁ : List ℕ} (repeats : (g : Lending) (p : Point) → Follows g p o → is_going p.answer ≡ false → Leaves o buffer log s buffer₁ log₁)
@@ -150,7 +150,7 @@ step_saves o bytes buffer log r {s} {buffer₁} {log₁} f = record {
   goes = λ a empty g.
       let p = g.point in
       let x = (f (lending bytes log) p g.follows).steps refl empty refl in
-      saving-on a bytes log p (step_at (length log) r p) (access_at (length log) r p) (made_more (length log) r p) x.logged g.octets (step_stands (begin (write_pages a bytes) [] 0) (length log) r p g.stands) x.follows g.is_log;
+      saving_on a bytes log p (step_at (length log) r p) (access_at (length log) r p) (made_more (length log) r p) x.logged g.octets (step_stands (begin (write_pages a bytes) [] 0) (length log) r p g.stands) x.follows g.is_log;
   beside = aside o bytes buffer log (λ g p h e. ((f g p h).repeats e).0) (λ g p h e d. ((f g p h).changed e d).0);
 }
 
@@ -168,4 +168,4 @@ run_saves o bytes buffer log rs {s} {buffer₁} {log₁} f = record { goes = λ 
     go a empty g true e =
         let p = g.point in
         let x = (f (lending bytes log) p g.follows).runs e refl empty refl in
-        saving-on a bytes log p (ran_at (length log) rs p) (rest (length log) rs p).log refl x.logged g.octets (run_stands (begin (write_pages a bytes) [] 0) (length log) rs p g.stands) x.follows g.is_log
+        saving_on a bytes log p (ran_at (length log) rs p) (rest (length log) rs p).log refl x.logged g.octets (run_stands (begin (write_pages a bytes) [] 0) (length log) rs p g.stands) x.follows g.is_log

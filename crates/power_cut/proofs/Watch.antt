@@ -242,14 +242,14 @@ module _ (early : List Chunk) where
     either true p q taken o e i = sym e
     either false p q taken o e i = sym i
 
-    sent-view : (q : List ℕ) (w : ℕ) (t taken : List ℕ) → q ++ w ∷ t ≡ words (transfer_of s c)
+    sent_view : (q : List ℕ) (w : ℕ) (t taken : List ℕ) → q ++ w ∷ t ≡ words (transfer_of s c)
         → showing (opened (flat (width s) q ++ bytes_out (width s) w) (newest taken)) false (doubt_at s false c) k ≡ view (at s (send_next (q ++ w ∷ []) t) taken c l k) h
-    sent-view q w [] taken e = ap (λ (z : List ℕ). showing (opened z (newest taken)) false (doubt_at s false c) k) (sym (flat_snoc (width s) q w) ∙ ap (flat (width s)) e)
-    sent-view q w (v ∷ t) taken e = ap (λ (z : List ℕ). showing (opened z (newest taken)) false (doubt_at s false c) k) (sym (flat_snoc (width s) q w))
+    sent_view q w [] taken e = ap (λ (z : List ℕ). showing (opened z (newest taken)) false (doubt_at s false c) k) (sym (flat_snoc (width s) q w) ∙ ap (flat (width s)) e)
+    sent_view q w (v ∷ t) taken e = ap (λ (z : List ℕ). showing (opened z (newest taken)) false (doubt_at s false c) k) (sym (flat_snoc (width s) q w))
 
-    take-view : (n : ℕ) (taken : List ℕ) → showing (opened (asked s c) (newest taken)) h (doubt_at s h c) k ≡ view (at s (take_next n) taken c l k) h
-    take-view zero taken = refl
-    take-view (suc n) taken = refl
+    take_view : (n : ℕ) (taken : List ℕ) → showing (opened (asked s c) (newest taken)) h (doubt_at s h c) k ≡ view (at s (take_next n) taken c l k) h
+    take_view zero taken = refl
+    take_view (suc n) taken = refl
 
   -- THEOREM. Of an access that is due the observer sees what the driver's next state shows.
   pub watch_at : (whole : List Chunk) (s : Stage) (p : Phase) (taken : List ℕ) (c : Chunk) (l : List Chunk) (k : Past) (h : Bool) (a : Access) → Going whole s p taken c l k → Matches (want (state_of (at s p taken c l k))) a
@@ -260,13 +260,13 @@ module _ (early : List Chunk) where
   watch_at whole s opening taken c l k h a g m_read = refl
   watch_at whole s (lowering w) taken c l k h a g m_write = rw (high_clear w)
   watch_at whole s switching taken c l k h a g m_write = rw g.count
-  watch_at whole s (sending q w t) taken c l k h a g m_write = rw (port_is s c) (sent-view s c l k h q w t taken g.split)
+  watch_at whole s (sending q w t) taken c l k h a g m_write = rw (port_is s c) (sent_view s c l k h q w t taken g.split)
   watch_at whole s starting taken c l k h a g m_read = refl
-  watch_at whole s (releasing w) taken c l k h a g m_write = rw (starts_with (high (started w)) s c (newest taken) g.fits) (take-view s c l k (high (started w)) (transfer_of s c).replies taken)
+  watch_at whole s (releasing w) taken c l k h a g m_write = rw (starts_with (high (started w)) s c (newest taken) g.fits) (take_view s c l k (high (started w)) (transfer_of s c).replies taken)
   watch_at whole s (waiting n) taken c l k h (access.Read o v) g m_read =
       either s c l k h (waits v) (cond (transfer_of s c).twice (again n) (taking n)) (waiting n) taken _ (sym (either s c l k h (transfer_of s c).twice (again n) (taking n) taken _ refl refl)) refl
   watch_at whole s (again n) taken c l k h (access.Read o v) g m_read = either s c l k h (waits v) (taking n) (waiting n) taken _ refl refl
-  watch_at whole s (taking n) taken c l k h (access.Read o v) g m_read = take-view s c l k h n (v ∷ taken)
+  watch_at whole s (taking n) taken c l k h (access.Read o v) g m_read = take_view s c l k h n (v ∷ taken)
   watch_at whole s closing taken c l k h a g m_read = refl
   watch_at whole s (raising w) taken c l k h a g m_write = rw (high_put w, ends_with h s c (newest taken) g.fits)
   watch_at whole s leaving taken c l k h a g m_write = closing_view s taken c l k h g.fits g.count

@@ -1,4 +1,4 @@
--- The power-cut statement of one save in the words of demand 3: what it says of the row of one, as `one-call` in proofs/OneCall shows.
+-- The power-cut statement of one save in the words of demand 3: what it says of the row of one, as `one_call` in proofs/OneCall shows.
 use Rattle.std.specs.Prelude.{ℕ, ◌+◌, ◌≤◌, ◌<◌, ◌≡◌, List, ◌++◌, length, get_or, take}
 use Rattle.std.specs.Int.Bits.{bit_and}
 use Rattle.qspi_script.specs.declared.Status.TheVariants.{Done}

@@ -17,7 +17,7 @@ abbrev pub save_by : ℕ → List ℕ → List Access → PagesRan → Save
 save_by a bs l r = record { address = a; bytes = bs; accesses = l; answer = r.ran.answer; count = r.programmed }
 
 -- the used words of the log are these accesses, each to a register's offset (so there are no others of which they are the words:
--- `one-log` in proofs/Offsets)
+-- `one_log` in proofs/Offsets)
 pub record Saved (a : ℕ) (bs : List ℕ) (r : PagesRan) (log : List ℕ) : Type 0 where
   pub accesses : List Access
   pub is_log : take r.ran.used log ≡ encode accesses

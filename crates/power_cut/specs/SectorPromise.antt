@@ -48,7 +48,7 @@ pub record ShowsSectors (l : List ℕ) (log : List Access) (count : ℕ) : Type 
   pub counted : count ≡ length (seen log).finished
   pub doubt : NextSector l count (seen log).doubt
 
--- the used words of the log are these accesses, each to a register's offset (so there are no others of which they are the words: `one-log` in proofs/Offsets), and the claim holds of them
+-- the used words of the log are these accesses, each to a register's offset (so there are no others of which they are the words: `one_log` in proofs/Offsets), and the claim holds of them
 -- and of the answer's count
 pub record Cleared (l : List ℕ) (r : SectorsRan) (log : List ℕ) : Type 0 where
   pub accesses : List Access

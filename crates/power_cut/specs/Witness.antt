@@ -1,6 +1,6 @@
 -- What it takes for the premises of the power-cut statement to be met: demand 3, "Premises: ..". `possible` in proofs/ shows it of every call,
 -- those that rules 4 and 5 of document 01 refuse after finished chunks included, from every device at rest and at every cut point;
--- `possible-row` of every row of them.
+-- `possible_row` of every row of them.
 use Rattle.std.specs.Prelude.{ℕ, ◌+◌, ◌%◌, ◌≤◌, ◌≡◌, cond, List, [], ◌∷◌, ◌++◌, map, ltb, eqb, length, take}
 use Rattle.std.proofs.Math.Option.{Option, none, some}
 use Rattle.zynq7000.specs.declared.qspi.Access.{Access}

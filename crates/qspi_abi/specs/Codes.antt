@@ -24,7 +24,7 @@ use Rattle.qspi_calls.specs.Calls as call
 abbrev pub source_of : ℕ → SrcSelIo
 source_of n = cond (eqb n 0) IoPll (cond (eqb n 1) IoPllAlt (cond (eqb n 2) ArmPll DdrPll))
 
--- the divisors by their codes, 0 to 7 (`divisor-of` there)
+-- the divisors by their codes, 0 to 7 (`divisor_of_lem` there)
 abbrev pub divisor_at : ℕ → BaudRateDivisor
 divisor_at n =
     cond (eqb n 0) baud._2

@@ -157,8 +157,8 @@ module _ (bit : ℕ) (failure : Status) (then : Script) (bs : List ℕ) (n : ℕ
       pub is : log ≡ front ++ tail
       pub rest : Plays (outcome rs) bs n tail e
 
-    work-plays : (log : List Access) (e : State) → want e ≡ nothing → Plays work bs n log e → Work log e
-    work-plays log e o p =
+    work_plays : (log : List Access) (e : State) → want e ≡ nothing → Plays work bs n log e → Work log e
+    work_plays log e o p =
         let c = plays_first enabling (λ rs. exchange x (λ rs. loop)) bs n log e o p in
         let d = plays_first x (λ rs. loop) bs n c.tail e o c.rest in
         let l = loop_plays (length d.tail) d.tail e o (omega arith) d.rest in
@@ -172,8 +172,8 @@ module _ (bit : ℕ) (failure : Status) (then : Script) (bs : List ℕ) (n : ℕ
           rest = l.rest;
         }
 
-    after-work : (front tail : List Access) (rs : List ℕ) → Looped bit x front rs → unsettled rs ≡ false → after (begin work bs n) (front ++ tail) ≡ after (begin (outcome rs) bs n) tail
-    after-work front tail rs l e =
+    after_work : (front tail : List Access) (rs : List ℕ) → Looped bit x front rs → unsettled rs ≡ false → after (begin work bs n) (front ++ tail) ≡ after (begin (outcome rs) bs n) tail
+    after_work front tail rs l e =
         ap (λ (z : List Access). after (begin work bs n) (z ++ tail)) l.is ∙ (ap (after (begin work bs n)) (parts l.enable l.work l.busy l.last tail)
         ∙ (after_first enabling (λ rs. exchange x (λ rs. loop)) bs n l.enable _ l.enabled.0 l.enabled.1 ∙ (after_first x (λ rs. loop) bs n l.work _ l.worked.0 l.worked.1
         ∙ after_loop l.busy l.last tail rs l.polled l.shown e)))
@@ -216,13 +216,13 @@ module _ (bit : ℕ) (failure : Status) (x : Transfer) (then : Script) (bs : Lis
   after_fails : (log : List Access) → Fails bit x log → after (begin (call.working bit failure x then) bs n) log ≡ ended failure [] bs n
   after_fails log f =
       let d = f.disarmed in
-      ap (after (begin (call.working bit failure x then) bs n)) d.is ∙ (after-work bit failure then bs n x f.front (d.clear ++ d.disable) f.rs f.looped (still_error bit f.rs f.error)
+      ap (after (begin (call.working bit failure x then) bs n)) d.is ∙ (after_work bit failure then bs n x f.front (d.clear ++ d.disable) f.rs f.looped (still_error bit f.rs f.error)
       ∙ (ap (λ (b : Bool). after (begin (onward b (call.failing failure) then) bs n) (d.clear ++ d.disable)) f.error ∙ after_failing failure bs n d.clear d.disable d.clears.0 d.disables.0 d.clears.1 d.disables.1))
 
   -- those of the work that is settled lead to what comes then
   after_settles : (log tail : List Access) → Settles bit x log → after (begin (call.working bit failure x then) bs n) (log ++ tail) ≡ after (begin then bs n) tail
   after_settles log tail s =
-      after-work bit failure then bs n x log tail s.rs s.looped (still_clean bit s.rs s.sound s.idle) ∙ ap (λ (b : Bool). after (begin (onward b (call.failing failure) then) bs n) tail) s.sound
+      after_work bit failure then bs n x log tail s.rs s.looped (still_clean bit s.rs s.sound s.idle) ∙ ap (λ (b : Bool). after (begin (onward b (call.failing failure) then) bs n) tail) s.sound
 
   -- and one of the two it comes to
   data Comes (log : List Access) (e : State) : Type 0 where
@@ -230,7 +230,7 @@ module _ (bit : ℕ) (failure : Status) (x : Transfer) (then : Script) (bs : Lis
     settles : (front tail : List Access) → Settles bit x front → log ≡ front ++ tail → Plays then bs n tail e → Comes log e
 
   work_comes : (log : List Access) (e : State) → want e ≡ nothing → Plays (call.working bit failure x then) bs n log e → Comes log e
-  work_comes log e o p = let w = work-plays bit failure then bs n x log e o p in go w (is_set bit (top w.rs)) refl w.rest
+  work_comes log e o p = let w = work_plays bit failure then bs n x log e o p in go w (is_set bit (top w.rs)) refl w.rest
     where
       go : (w : Work bit failure then bs n x log e) (b : Bool) → is_set bit (top w.rs) ≡ b → Plays (onward b (call.failing failure) then) bs n w.tail e → Comes log e
       go w true f q =
@@ -462,8 +462,8 @@ module _ (room : ℕ) (replies : List ℕ) where
         saves h s y.0 (ap (λ (z : List Chunk). after (begin (call.pages z) [] 0) (log_of save)) (sym is) ∙ (ap (after (begin (call.pages (before ++ rest)) [] 0)) l ∙ (y.1 ∙ g y.0)))
 
     -- a chunk that breaks a rule, after finished ones
-    breaks-so : a + length bs ≤ 16777215 → (c : Chunk) → ComesTo a bs c (log_of save) → (s : Status) → Breaks c s → Answers save s
-    breaks-so h c t s b =
+    breaks_so : a + length bs ≤ 16777215 → (c : Chunk) → ComesTo a bs c (log_of save) → (s : Status) → Breaks c s → Answers save s
+    breaks_so h c t s b =
         ends_so h t.before (c ∷ t.behind) (log_of save) [] t.is t.finished (sym (append-nil (log_of save))) s (λ m. ap (λ (z : Script). begin z [] m) (breaks c t.behind b))
 
     -- a chunk lies within the bytes and has at most 128
@@ -472,10 +472,10 @@ module _ (room : ℕ) (replies : List ℕ) where
     chunk_in h c t = let w = within (length bs) a bs c (among_middle t.before c t.behind _ t.is) in (omega (arith, w.0, h), omega (arith, w.1))
 
     -- 4, which "may come after finished chunks": the chunk that comes then has a "length not a multiple of 4"; the log is that of the finished ones
-    pub pages-four : Answers save NotAligned ↔ ((a + length bs ≤ 16777215) × ((c : Chunk) × (ComesTo a bs c (log_of save) × (length c.bytes % 4 ≡ 0 → ⊥))))
-    pages-four = (
+    pub pages_four : Answers save NotAligned ↔ ((a + length bs ≤ 16777215) × ((c : Chunk) × (ComesTo a bs c (log_of save) × (length c.bytes % 4 ≡ 0 → ⊥))))
+    pages_four = (
       λ q. let y = saved NotAligned refl (λ e. let z : ◌≡◌ {A = ℕ} 1 4 = ap number_of e in omega (arith, z)) q in (y.0, to y.1),
-      λ h. let g = chunk_in h.0 h.1.0 h.1.1.0 in breaks-so h.0 h.1.0 h.1.1.0 NotAligned (four g.0 g.1 h.1.1.1),
+      λ h. let g = chunk_in h.0 h.1.0 h.1.1.0 in breaks_so h.0 h.1.0 h.1.1.0 NotAligned (four g.0 g.1 h.1.1.1),
     )
       where
         to : PagesEnd (chunks a bs) (log_of save) NotAligned → (c : Chunk) × (ComesTo a bs c (log_of save) × (length c.bytes % 4 ≡ 0 → ⊥))
@@ -484,12 +484,12 @@ module _ (room : ℕ) (replies : List ℕ) where
         to (failed_at before c behind is front tail l f h g e) = absurd (let z : ◌≡◌ {A = ℕ} 22 4 = ap number_of e in omega (arith, z))
 
     -- 5, likewise: that chunk has "addr mod 256 plus length above 256", and 4 does not apply to it
-    pub pages-five : Answers save CrossesPageBoundary ↔ ((a + length bs ≤ 16777215) × ((c : Chunk) × (ComesTo a bs c (log_of save) × ((length c.bytes % 4 ≡ 0) × (256 < c.address % 256 + length c.bytes)))))
-    pages-five = (
+    pub pages_five : Answers save CrossesPageBoundary ↔ ((a + length bs ≤ 16777215) × ((c : Chunk) × (ComesTo a bs c (log_of save) × ((length c.bytes % 4 ≡ 0) × (256 < c.address % 256 + length c.bytes)))))
+    pages_five = (
       λ q. let y = saved CrossesPageBoundary refl (λ e. let z : ◌≡◌ {A = ℕ} 1 5 = ap number_of e in omega (arith, z)) q in (y.0, to y.1),
       λ h.
           let g = chunk_in h.0 h.1.0 h.1.1.0 in
-          breaks-so h.0 h.1.0 h.1.1.0 CrossesPageBoundary (five g.0 g.1 h.1.1.1.0 h.1.1.1.1),
+          breaks_so h.0 h.1.0 h.1.1.0 CrossesPageBoundary (five g.0 g.1 h.1.1.1.0 h.1.1.1.1),
     )
       where
         to : PagesEnd (chunks a bs) (log_of save) CrossesPageBoundary → (c : Chunk) × (ComesTo a bs c (log_of save) × ((length c.bytes % 4 ≡ 0) × (256 < c.address % 256 + length c.bytes)))
@@ -498,9 +498,9 @@ module _ (room : ℕ) (replies : List ℕ) where
         to (failed_at before c behind is front tail l f h g e) = absurd (let z : ◌≡◌ {A = ℕ} 22 5 = ap number_of e in omega (arith, z))
 
     -- 22: the accesses after those of the finished chunks are those of the next, which `program` accepts and which fails as above
-    pub pages-twenty-two : Answers save ProgrammingErrorBitSet
+    pub pages_twenty_two : Answers save ProgrammingErrorBitSet
         ↔ ((a + length bs ≤ 16777215) × ((c : Chunk) × (Accepted c × ((front : List Access) × ((tail : List Access) × ((log_of save ≡ front ++ tail) × (ComesTo a bs c front × Fails 6 (programming c.address c.bytes) tail)))))))
-    pages-twenty-two = (
+    pages_twenty_two = (
       λ q. let y = saved ProgrammingErrorBitSet refl (λ e. let z : ◌≡◌ {A = ℕ} 1 22 = ap number_of e in omega (arith, z)) q in (y.0, to y.1),
       λ h. from h.0 h.1.0 h.1.1.0 h.1.1.1.0 h.1.1.1.1.0 h.1.1.1.1.1.0 h.1.1.1.1.1.1.0 h.1.1.1.1.1.1.1,
     )
@@ -517,8 +517,8 @@ module _ (room : ℕ) (replies : List ℕ) where
             (λ m. ap (λ (z : Script). after (begin z [] m) tail) (accepts c t.behind k) ∙ after_fails 6 ProgrammingErrorBitSet (programming c.address c.bytes) (counts (length c.bytes) (call.pages t.behind)) [] m tail f)
 
     -- 0: every chunk is finished
-    pub pages-done : Answers save Done ↔ ((a + length bs ≤ 16777215) × Finished (chunks a bs) (log_of save))
-    pages-done = (
+    pub pages_done : Answers save Done ↔ ((a + length bs ≤ 16777215) × Finished (chunks a bs) (log_of save))
+    pages_done = (
       λ q. let y = saved Done refl (λ e. let z : ◌≡◌ {A = ℕ} 1 0 = ap number_of e in omega (arith, z)) q in (y.0, to y.1),
       λ h. ends_so h.0 (chunks a bs) [] (log_of save) [] (append-nil (chunks a bs)) h.1 (sym (append-nil (log_of save))) Done (λ m. refl),
     )
@@ -529,8 +529,8 @@ module _ (room : ℕ) (replies : List ℕ) where
         to (failed_at before c behind is front tail l f h g e) = absurd (let z : ◌≡◌ {A = ℕ} 22 0 = ap number_of e in omega (arith, z))
 
     -- after 22 the log ends with clear status and write disable
-    pub pages-disarmed : Answers save ProgrammingErrorBitSet → (front : List Access) × Disarmed front (log_of save)
-    pages-disarmed q = go (saved ProgrammingErrorBitSet refl (λ e. let z : ◌≡◌ {A = ℕ} 1 22 = ap number_of e in omega (arith, z)) q).1
+    pub pages_disarmed : Answers save ProgrammingErrorBitSet → (front : List Access) × Disarmed front (log_of save)
+    pages_disarmed q = go (saved ProgrammingErrorBitSet refl (λ e. let z : ◌≡◌ {A = ℕ} 1 22 = ap number_of e in omega (arith, z)) q).1
       where
         go : PagesEnd (chunks a bs) (log_of save) ProgrammingErrorBitSet → (front : List Access) × Disarmed front (log_of save)
         go (all_done f e) = absurd (let z : ◌≡◌ {A = ℕ} 0 22 = ap number_of e in omega (arith, z))
@@ -565,7 +565,7 @@ module _ (room : ℕ) (replies : List ℕ) where
   ends_disarmed (program a bs) (inl q) = absurd (never room replies EraseErrorBitSet (with_program refl refl refl refl refl a bs (with_end refl)) refl refl refl q)
   ends_disarmed (program a bs) (inr q) = failed_disarmed 6 (programming a bs) (log_of (call.program a bs)) ((program_twenty_two a bs).0 q)
   ends_disarmed (write_pages_call a bs) (inl q) = absurd (never room replies EraseErrorBitSet (with_either (ltb 16777215 (a + length bs)) (with_end refl) (with_pages refl refl refl refl refl refl (chunks a bs))) refl refl refl q)
-  ends_disarmed (write_pages_call a bs) (inr q) = pages-disarmed a bs q
+  ends_disarmed (write_pages_call a bs) (inr q) = pages_disarmed a bs q
   ends_disarmed (read fast dummy a n) q = absurd (unfailing room replies (with_either (ltb 4294967296 (a + n)) (with_end refl) (with_reads refl n fast dummy a n)) q)
   ends_disarmed (initialize c phase polarity) q = absurd (unfailing room replies (with_either (ltb 63 c.ref_clk_div) (with_end refl) (with_perform (λ rs. with_end refl))) q)
   ends_disarmed (enable_linear_addressing word) q = absurd (unfailing room replies (with_perform (λ rs. with_end refl)) q)

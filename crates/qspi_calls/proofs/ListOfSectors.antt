@@ -32,7 +32,7 @@ use Rattle.qspi_calls.specs.Starts as start
 use Rattle.qspi_calls.proofs.Phases.{words, Same}
 use Rattle.qspi_calls.proofs.Scripted.{Turns, on, over, more, Scripted}
 use Rattle.qspi_calls.proofs.Short.{same_short, word_short, ended_at_start, ended_with}
-use Rattle.qspi_calls.proofs.Several.{Stages, opens, either, Working, settle_enable, working-scripted}
+use Rattle.qspi_calls.proofs.Several.{Stages, opens, either, Working, settle_enable, working_scripted}
 use Rattle.qspi_calls.proofs.Tied.{Starts}
 
 -- ---- a sector that is not refused
@@ -131,7 +131,7 @@ module _ (list log : List ℕ) (few : length list ≤ 256) (good : Good list) wh
       more t
 
   listing : Scripted job bytes [] Listing
-  listing = working-scripted stage.Erase true sequel.Sectors EraseErrorBitSet 5 0 bytes log Sector refl (λ d n r. refl) sector_same sector_word sector_clean refl refl (λ st. refl)
+  listing = working_scripted stage.Erase true sequel.Sectors EraseErrorBitSet 5 0 bytes log Sector refl (λ d n r. refl) sector_same sector_word sector_clean refl refl (λ st. refl)
 
   sectors_start : Starts (start.opened job (next_sector job (start.place_at stage.Enable 0 0 0))) bytes log [] (sectors list)
   sectors_start = opens job bytes log Listing listing (next_sector job (start.place_at stage.Enable 0 0 0)) (sectors list) (sector_turn stage.Enable 0 (fresh_wire phase.DrainStatus) (omega arith)) refl refl refl

@@ -112,23 +112,23 @@ module _ (s : Script) where
     longer a (on e p) = on e (ap (logging a) p)
     longer a (cut e x n v p) = cut e x n v (ap (logging a) p)
 
-    split-room : (w : Want) (x y : State) (rs : List ℕ) → (w ≡ nothing → ⊥) → count_in x ≡ c → values_in x ≡ [] → Split (no_room w x rs) (no_room w y rs)
-    split-room nothing x y rs h n v = absurd (h refl)
-    split-room (reads o) x y rs h n v = cut (inr (inr refl)) x n v refl
-    split-room (writes o z) x y rs h n v = cut (inr (inr refl)) x n v refl
+    split_room : (w : Want) (x y : State) (rs : List ℕ) → (w ≡ nothing → ⊥) → count_in x ≡ c → values_in x ≡ [] → Split (no_room w x rs) (no_room w y rs)
+    split_room nothing x y rs h n v = absurd (h refl)
+    split_room (reads o) x y rs h n v = cut (inr (inr refl)) x n v refl
+    split_room (writes o z) x y rs h n v = cut (inr (inr refl)) x n v refl
 
-    split-made : (w : Want) (x y : State) (m : ℕ) (rs : List ℕ) → (w ≡ nothing → ⊥) → count_in x ≡ c → values_in x ≡ [] → ((z : ℕ) (us : List ℕ) → Split (runs m (next x z) us) (runs m (next y z) us))
+    split_made : (w : Want) (x y : State) (m : ℕ) (rs : List ℕ) → (w ≡ nothing → ⊥) → count_in x ≡ c → values_in x ≡ [] → ((z : ℕ) (us : List ℕ) → Split (runs m (next x z) us) (runs m (next y z) us))
         → Split (made w x m rs (runs m)) (made w y m rs (runs m))
-    split-made nothing x y m rs h n v g = absurd (h refl)
-    split-made (reads o) x y m [] h n v g = cut (inr (inl refl)) x n v refl
-    split-made (reads o) x y m (z ∷ rs) h n v g = longer (access.Read o z) (g z rs)
-    split-made (writes o z) x y m rs h n v g = longer (access.Write o z) (g z rs)
+    split_made nothing x y m rs h n v g = absurd (h refl)
+    split_made (reads o) x y m [] h n v g = cut (inr (inl refl)) x n v refl
+    split_made (reads o) x y m (z ∷ rs) h n v g = longer (access.Read o z) (g z rs)
+    split_made (writes o z) x y m rs h n v g = longer (access.Write o z) (g z rs)
 
     splits : (n : ℕ) {x y : State} (rs : List ℕ) → Alike x y → Split (runs n x rs) (runs n y rs)
     unfolding runs
-    splits zero rs (alike {m} {a} {l} {taken} {k} {h} f) = split-room (want_at m a) (going m a l taken none k [] c) (going m a l taken none h [] 0) rs (some_due m a) refl refl
+    splits zero rs (alike {m} {a} {l} {taken} {k} {h} f) = split_room (want_at m a) (going m a l taken none k [] c) (going m a l taken none h [] 0) rs (some_due m a) refl refl
     splits (suc n) rs (alike {m} {a} {l} {taken} {k} {h} f) =
-        split-made (want_at m a) (going m a l taken none k [] c) (going m a l taken none h [] 0) n rs (some_due m a) refl refl (λ z us. splits n us (moved f (progress m a z) a l taken))
+        split_made (want_at m a) (going m a l taken none k [] c) (going m a l taken none h [] 0) n rs (some_due m a) refl refl (λ z us. splits n us (moved f (progress m a z) a l taken))
     splits zero rs begun = on refl refl
     splits (suc n) rs begun = on refl refl
     splits zero rs stopped = cut (inl refl) (ended EraseErrorBitSet [] [] c) refl refl refl

@@ -28,7 +28,7 @@ use Rattle.qspi_calls.proofs.Phases.{words, Same}
 use Rattle.qspi_calls.proofs.Scripted.{Turns, on, over, more, Scripted}
 use Rattle.qspi_calls.proofs.Short.{ended_at_start}
 use Rattle.qspi_calls.proofs.ProgramWords.{length_words, data_word_lem, all_prefilled}
-use Rattle.qspi_calls.proofs.Several.{Stages, opens, either, Working, settle_enable, working-scripted}
+use Rattle.qspi_calls.proofs.Several.{Stages, opens, either, Working, settle_enable, working_scripted}
 use Rattle.qspi_calls.proofs.Tied.{Starts}
 
 -- ---- the chunks
@@ -207,7 +207,7 @@ module _ (a : ℕ) (bytes log : List ℕ) (range : a + length bytes ≤ 16777215
       more t
 
   page_scripted : Scripted job bytes [] Paging
-  page_scripted = working-scripted stage.Program false sequel.Pages ProgrammingErrorBitSet 6 a bytes log Page refl (λ d n r. refl) page_same page_word page_clean refl refl (λ st. refl)
+  page_scripted = working_scripted stage.Program false sequel.Pages ProgrammingErrorBitSet 6 a bytes log Page refl (λ d n r. refl) page_same page_word page_clean refl refl (λ st. refl)
 
   pages_start : Starts (start.opened job (next_page job (start.place_at stage.Enable 0 0 0))) bytes log [] (pages (chunks a bytes))
   unfolding chunks

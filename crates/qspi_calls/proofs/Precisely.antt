@@ -206,8 +206,8 @@ module _ (room : ℕ) (replies : List ℕ) where
     abbrev work : Script
     work = call.working 6 ProgrammingErrorBitSet (programming a bs) (ends Done [])
 
-    with-work : (p : Status → Bool) → p Done ≡ true → p ProgrammingErrorBitSet ≡ true → EndsWith p work
-    with-work p d f = with_working 6 _ (programming a bs) f (with_end d)
+    with_work : (p : Status → Bool) → p Done ≡ true → p ProgrammingErrorBitSet ≡ true → EndsWith p work
+    with_work p d f = with_working 6 _ (programming a bs) f (with_end d)
 
     abbrev paged : Script
     paged = onward (ltb 256 (a % 256 + length bs)) (refused CrossesPageBoundary) work
@@ -218,14 +218,14 @@ module _ (room : ℕ) (replies : List ℕ) where
     abbrev small : Script
     small = onward (ltb 240 (length bs)) (refused DataTooLarge) aligned
 
-    with-paged : (p : Status → Bool) → p Done ≡ true → p ProgrammingErrorBitSet ≡ true → p CrossesPageBoundary ≡ true → EndsWith p paged
-    with-paged p d f e₅ = with_either (ltb 256 (a % 256 + length bs)) (with_end e₅) (with-work p d f)
+    with_paged : (p : Status → Bool) → p Done ≡ true → p ProgrammingErrorBitSet ≡ true → p CrossesPageBoundary ≡ true → EndsWith p paged
+    with_paged p d f e₅ = with_either (ltb 256 (a % 256 + length bs)) (with_end e₅) (with_work p d f)
 
-    with-aligned : (p : Status → Bool) → p Done ≡ true → p ProgrammingErrorBitSet ≡ true → p CrossesPageBoundary ≡ true → p NotAligned ≡ true → EndsWith p aligned
-    with-aligned p d f e₅ e₄ = with_either (eqb (length bs % 4) 0) (with-paged p d f e₅) (with_end e₄)
+    with_aligned : (p : Status → Bool) → p Done ≡ true → p ProgrammingErrorBitSet ≡ true → p CrossesPageBoundary ≡ true → p NotAligned ≡ true → EndsWith p aligned
+    with_aligned p d f e₅ e₄ = with_either (eqb (length bs % 4) 0) (with_paged p d f e₅) (with_end e₄)
 
-    with-small : (p : Status → Bool) → p Done ≡ true → p ProgrammingErrorBitSet ≡ true → p CrossesPageBoundary ≡ true → p NotAligned ≡ true → p DataTooLarge ≡ true → EndsWith p small
-    with-small p d f e₅ e₄ e₃ = with_either (ltb 240 (length bs)) (with_end e₃) (with-aligned p d f e₅ e₄)
+    with_small : (p : Status → Bool) → p Done ≡ true → p ProgrammingErrorBitSet ≡ true → p CrossesPageBoundary ≡ true → p NotAligned ≡ true → p DataTooLarge ≡ true → EndsWith p small
+    with_small p d f e₅ e₄ e₃ = with_either (ltb 240 (length bs)) (with_end e₃) (with_aligned p d f e₅ e₄)
 
     -- what holds of a run that 1 does not refuse, or 1 and 3, or 1, 3 and 4
     past_one : (Q : Result → Type 0) → (Q (called (refused OutOfRange) room replies) → ⊥) → Q (called (call.program a bs) room replies) ↔ ((a + length bs ≤ 16777215) × Q (called small room replies))
@@ -234,42 +234,42 @@ module _ (room : ℕ) (replies : List ℕ) where
     past_three : (Q : Result → Type 0) → (Q (called (refused DataTooLarge) room replies) → ⊥) → Q (called small room replies) ↔ ((length bs ≤ 240) × Q (called aligned room replies))
     past_three Q n = Iff.trans (past Q (ltb 240 (length bs)) DataTooLarge aligned n) (Iff.and (not_below 240 (length bs)) Iff.rfl)
 
-    past-four : (Q : Result → Type 0) → (Q (called (refused NotAligned) room replies) → ⊥) → Q (called aligned room replies) ↔ ((length bs % 4 ≡ 0) × Q (called paged room replies))
-    past-four Q n = Iff.trans (past_not Q (eqb (length bs % 4) 0) NotAligned paged n) (Iff.and (equal (length bs % 4) 0) Iff.rfl)
+    past_four : (Q : Result → Type 0) → (Q (called (refused NotAligned) room replies) → ⊥) → Q (called aligned room replies) ↔ ((length bs % 4 ≡ 0) × Q (called paged room replies))
+    past_four Q n = Iff.trans (past_not Q (eqb (length bs % 4) 0) NotAligned paged n) (Iff.and (equal (length bs % 4) 0) Iff.rfl)
 
-    past-five : (Q : Result → Type 0) → (Q (called (refused CrossesPageBoundary) room replies) → ⊥) → Q (called paged room replies) ↔ ((a % 256 + length bs ≤ 256) × Q (called work room replies))
-    past-five Q n = Iff.trans (past Q (ltb 256 (a % 256 + length bs)) CrossesPageBoundary work n) (Iff.and (not_below 256 (a % 256 + length bs)) Iff.rfl)
+    past_five : (Q : Result → Type 0) → (Q (called (refused CrossesPageBoundary) room replies) → ⊥) → Q (called paged room replies) ↔ ((a % 256 + length bs ≤ 256) × Q (called work room replies))
+    past_five Q n = Iff.trans (past Q (ltb 256 (a % 256 + length bs)) CrossesPageBoundary work n) (Iff.and (not_below 256 (a % 256 + length bs)) Iff.rfl)
 
     -- what holds of a run that no rule refuses
     pub accepted : (Q : Result → Type 0) → (Q (called (refused OutOfRange) room replies) → ⊥) → (Q (called (refused DataTooLarge) room replies) → ⊥) → (Q (called (refused NotAligned) room replies) → ⊥)
         → (Q (called (refused CrossesPageBoundary) room replies) → ⊥)
         → Q (called (call.program a bs) room replies) ↔ ((a + length bs ≤ 16777215) × ((length bs ≤ 240) × ((length bs % 4 ≡ 0) × ((a % 256 + length bs ≤ 256) × Q (called work room replies)))))
-    accepted Q n₁ n₃ n₄ n₅ = Iff.trans (past_one Q n₁) (Iff.and Iff.rfl (Iff.trans (past_three Q n₃) (Iff.and Iff.rfl (Iff.trans (past-four Q n₄) (Iff.and Iff.rfl (past-five Q n₅))))))
+    accepted Q n₁ n₃ n₄ n₅ = Iff.trans (past_one Q n₁) (Iff.and Iff.rfl (Iff.trans (past_three Q n₃) (Iff.and Iff.rfl (Iff.trans (past_four Q n₄) (Iff.and Iff.rfl (past_five Q n₅))))))
 
     -- 1: "addr + length, above 16,777,215; the sum taken in full"
-    pub program-one : Answers (call.program a bs) OutOfRange ↔ (16777215 < a + length bs)
-    program-one = Iff.trans (applies (ltb 16777215 (a + length bs)) OutOfRange small (never OutOfRange (with-small (other OutOfRange) refl refl refl refl refl) refl refl refl)) (below 16777215 (a + length bs))
+    pub program_one : Answers (call.program a bs) OutOfRange ↔ (16777215 < a + length bs)
+    program_one = Iff.trans (applies (ltb 16777215 (a + length bs)) OutOfRange small (never OutOfRange (with_small (other OutOfRange) refl refl refl refl refl) refl refl refl)) (below 16777215 (a + length bs))
 
     -- 3: "over 240 bytes", and 1 does not apply
-    pub program-three : Answers (call.program a bs) DataTooLarge ↔ ((a + length bs ≤ 16777215) × (240 < length bs))
-    program-three =
+    pub program_three : Answers (call.program a bs) DataTooLarge ↔ ((a + length bs ≤ 16777215) × (240 < length bs))
+    program_three =
         Iff.trans (past_one (λ r. r.answer ≡ DataTooLarge) (refuses_not OutOfRange DataTooLarge refl refl))
-        (Iff.and Iff.rfl (Iff.trans (applies (ltb 240 (length bs)) DataTooLarge aligned (never DataTooLarge (with-aligned (other DataTooLarge) refl refl refl refl) refl refl refl)) (below 240 (length bs))))
+        (Iff.and Iff.rfl (Iff.trans (applies (ltb 240 (length bs)) DataTooLarge aligned (never DataTooLarge (with_aligned (other DataTooLarge) refl refl refl refl) refl refl refl)) (below 240 (length bs))))
 
     -- 4: "length not a multiple of 4", and neither 1 nor 3 applies
-    pub program-four : Answers (call.program a bs) NotAligned ↔ ((a + length bs ≤ 16777215) × ((length bs ≤ 240) × (length bs % 4 ≡ 0 → ⊥)))
-    program-four =
+    pub program_four : Answers (call.program a bs) NotAligned ↔ ((a + length bs ≤ 16777215) × ((length bs ≤ 240) × (length bs % 4 ≡ 0 → ⊥)))
+    program_four =
         Iff.trans (past_one (λ r. r.answer ≡ NotAligned) (refuses_not OutOfRange NotAligned refl refl))
         (Iff.and Iff.rfl (Iff.trans (past_three (λ r. r.answer ≡ NotAligned) (refuses_not DataTooLarge NotAligned refl refl))
-        (Iff.and Iff.rfl (Iff.trans (applies_not (eqb (length bs % 4) 0) NotAligned paged (never NotAligned (with-paged (other NotAligned) refl refl refl) refl refl refl)) (unequal (length bs % 4) 0)))))
+        (Iff.and Iff.rfl (Iff.trans (applies_not (eqb (length bs % 4) 0) NotAligned paged (never NotAligned (with_paged (other NotAligned) refl refl refl) refl refl refl)) (unequal (length bs % 4) 0)))))
 
     -- 5: "addr mod 256 plus length above 256", and none of 1, 3 and 4 applies
-    pub program-five : Answers (call.program a bs) CrossesPageBoundary ↔ ((a + length bs ≤ 16777215) × ((length bs ≤ 240) × ((length bs % 4 ≡ 0) × (256 < a % 256 + length bs))))
-    program-five =
+    pub program_five : Answers (call.program a bs) CrossesPageBoundary ↔ ((a + length bs ≤ 16777215) × ((length bs ≤ 240) × ((length bs % 4 ≡ 0) × (256 < a % 256 + length bs))))
+    program_five =
         Iff.trans (past_one (λ r. r.answer ≡ CrossesPageBoundary) (refuses_not OutOfRange CrossesPageBoundary refl refl))
         (Iff.and Iff.rfl (Iff.trans (past_three (λ r. r.answer ≡ CrossesPageBoundary) (refuses_not DataTooLarge CrossesPageBoundary refl refl))
-        (Iff.and Iff.rfl (Iff.trans (past-four (λ r. r.answer ≡ CrossesPageBoundary) (refuses_not NotAligned CrossesPageBoundary refl refl))
-        (Iff.and Iff.rfl (Iff.trans (applies (ltb 256 (a % 256 + length bs)) CrossesPageBoundary work (never CrossesPageBoundary (with-work (other CrossesPageBoundary) refl refl) refl refl refl)) (below 256 (a % 256 + length bs))))))))
+        (Iff.and Iff.rfl (Iff.trans (past_four (λ r. r.answer ≡ CrossesPageBoundary) (refuses_not NotAligned CrossesPageBoundary refl refl))
+        (Iff.and Iff.rfl (Iff.trans (applies (ltb 256 (a % 256 + length bs)) CrossesPageBoundary work (never CrossesPageBoundary (with_work (other CrossesPageBoundary) refl refl) refl refl refl)) (below 256 (a % 256 + length bs))))))))
 
   -- ---- write_pages, the reads, and values wider than their field
 
@@ -314,9 +314,9 @@ module _ (room : ℕ) (replies : List ℕ) where
     r = called c room replies
 
     -- 24: "an access is due, fewer than two words of log left": there is no room for it where the run stands
-    pub twenty-four : Answers c LogFull ↔ ((want r.state ≡ nothing → ⊥) × (r.room ≡ 0))
-    twenty-four = full_when (calls_own q) room replies
+    pub twenty_four : Answers c LogFull ↔ ((want r.state ≡ nothing → ⊥) × (r.room ≡ 0))
+    twenty_four = full_when (calls_own q) room replies
 
     -- 23: "a read is due, no reply left" where the run stands, and there is room for it
-    pub twenty-three : Answers c RepliesEnded ↔ (((o : ℕ) × (want r.state ≡ reads o)) × ((0 < r.room) × (r.unread ≡ [])))
-    twenty-three = dry_when (calls_own q) room replies
+    pub twenty_three : Answers c RepliesEnded ↔ (((o : ℕ) × (want r.state ≡ reads o)) × ((0 < r.room) × (r.unread ≡ [])))
+    twenty_three = dry_when (calls_own q) room replies

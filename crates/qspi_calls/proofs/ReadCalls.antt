@@ -197,44 +197,44 @@ module _ (fast dummy : Bool) (a n : ℕ) (log old : List ℕ) (span : a + n ≤ 
 
   -- an access that takes no reply brings nothing
   module _ {p : Place} {x : Transfer} {brings : List ℕ → List ℕ} {k : List ℕ → Script} {bs : List ℕ} (q : ReadAt p x brings k bs) (taken : List ℕ) where
-    over-bytes : (l : List Action) → bytes_in (proceed l taken brings k bs 0) ≡ bs ++ brings (reverse taken)
-    over-bytes [] = go q
+    over_bytes : (l : List Action) → bytes_in (proceed l taken brings k bs 0) ≡ bs ++ brings (reverse taken)
+    over_bytes [] = go q
       where
         go : {p : Place} {x : Transfer} {brings : List ℕ → List ℕ} {k : List ℕ → Script} {bs : List ℕ} → ReadAt p x brings k bs → bytes_in (begin (k (reverse taken)) (bs ++ brings (reverse taken)) 0) ≡ bs ++ brings (reverse taken)
         go (read_at {f} {d} {bs} h e g) = begun_bytes f (a + d + chunk d) (n - d - chunk d) (bs ++ bytes_read dummy (chunk d) (reverse taken))
-    over-bytes (c ∷ l) = refl
+    over_bytes (c ∷ l) = refl
 
-    drain-bytes : (b : Bool) (m : Midway) (c : Action) (l : List Action) → bytes_in (moves (cond b (stays m) over) c l taken brings k bs 0) ≡ bs ++ brings (reverse taken)
-    drain-bytes true m c l = refl
-    drain-bytes false m c l = over-bytes l
+    drain_bytes : (b : Bool) (m : Midway) (c : Action) (l : List Action) → bytes_in (moves (cond b (stays m) over) c l taken brings k bs 0) ≡ bs ++ brings (reverse taken)
+    drain_bytes true m c l = refl
+    drain_bytes false m c l = over_bytes l
 
-    poll-bytes : (b : Bool) (m₁ m₂ : Midway) (c : Action) (l : List Action) → bytes_in (moves (cond b (stays m₁) (stays m₂)) c l taken brings k bs 0) ≡ bs ++ brings (reverse taken)
-    poll-bytes true m₁ m₂ c l = refl
-    poll-bytes false m₁ m₂ c l = refl
+    poll_bytes : (b : Bool) (m₁ m₂ : Midway) (c : Action) (l : List Action) → bytes_in (moves (cond b (stays m₁) (stays m₂)) c l taken brings k bs 0) ≡ bs ++ brings (reverse taken)
+    poll_bytes true m₁ m₂ c l = refl
+    poll_bytes false m₁ m₂ c l = refl
 
   abbrev same_buffer : {x y : List ℕ} → y ≡ x → overlaid x old ≡ overlaid y old
   same_buffer e = ap (λ (z : List ℕ). overlaid z old) (sym e)
 
   takes_reply : {p : Place} {x : Transfer} {brings : List ℕ → List ℕ} {k : List ℕ → Script} {bs : List ℕ} (c i b v j : ℕ) (taken : List ℕ) (t : Bool) → ReadAt p x brings k bs → b ≡ 4 * length taken
       → stored job p (wire phase.Take c i b taken) v (overlaid (bs ++ brings (reverse taken)) old) ≡ overlaid (bytes_in (proceed (replicate j (reply t) ++ closing) (v ∷ taken) brings k bs 0)) old
-  takes_reply c i b v j taken t (read_at {f} {d} {bs} h e g) u = taking d v b bs taken h e u ∙ same_buffer (over-bytes (read_at {f = f} {d = d} {bs = bs} h e g) (v ∷ taken) (replicate j (reply t) ++ closing))
+  takes_reply c i b v j taken t (read_at {f} {d} {bs} h e g) u = taking d v b bs taken h e u ∙ same_buffer (over_bytes (read_at {f = f} {d = d} {bs = bs} h e g) (v ∷ taken) (replicate j (reply t) ++ closing))
 
   r_keeps : (p : Place) (w : Wire) (z : State) (v : ℕ) → Rel p w Going z → stored job p w v (overlaid (bytes_in z) old) ≡ overlaid (bytes_in (next z v)) old
   r_keeps p w z v (rel_over g) = no (sym g)
-  r_keeps p w z v (rel_on q p_drain) = same_buffer (drain-bytes q [] (waits v) full drain _)
+  r_keeps p w z v (rel_on q p_drain) = same_buffer (drain_bytes q [] (waits v) full drain _)
   r_keeps p w z v (rel_on q p_data) = refl
   r_keeps p w z v (rel_on q p_open) = refl
   r_keeps p w z v (rel_on q p_opens) = refl
   r_keeps p w z v (rel_on q p_enable) = refl
-  r_keeps p w z v (rel_on {x = x} q (p_send {i = i} l)) = same_buffer (over-bytes q [] (map (write x.port) (drop (suc i) (words x)) ++ replying x))
+  r_keeps p w z v (rel_on {x = x} q (p_send {i = i} l)) = same_buffer (over_bytes q [] (map (write x.port) (drop (suc i) (words x)) ++ replying x))
   r_keeps p w z v (rel_on q p_start) = refl
-  r_keeps p w z v (rel_on {x = x} q p_starts) = same_buffer (over-bytes q [] (replicate x.replies (reply x.twice) ++ closing))
-  r_keeps p w z v (rel_on {x = x} q (p_wait j {taken} e f)) = same_buffer (poll-bytes q taken (waits v) (cond x.twice again ready) first (reply x.twice) (replicate j (reply x.twice) ++ closing))
-  r_keeps p w z v (rel_on {x = x} q (p_again j {taken} e f)) = same_buffer (poll-bytes q taken (waits v) ready first (reply x.twice) (replicate j (reply x.twice) ++ closing))
+  r_keeps p w z v (rel_on {x = x} q p_starts) = same_buffer (over_bytes q [] (replicate x.replies (reply x.twice) ++ closing))
+  r_keeps p w z v (rel_on {x = x} q (p_wait j {taken} e f)) = same_buffer (poll_bytes q taken (waits v) (cond x.twice again ready) first (reply x.twice) (replicate j (reply x.twice) ++ closing))
+  r_keeps p w z v (rel_on {x = x} q (p_again j {taken} e f)) = same_buffer (poll_bytes q taken (waits v) ready first (reply x.twice) (replicate j (reply x.twice) ++ closing))
   r_keeps p w z v (rel_on {x = x} q (p_take {c} {i} {b} j {taken} e f)) = takes_reply c i b v j taken x.twice q e
   r_keeps p w z v (rel_on q (p_close e)) = refl
   r_keeps p w z v (rel_on q (p_closes e)) = refl
-  r_keeps p w z v (rel_on q (p_end {taken = taken} e)) = same_buffer (over-bytes q taken [])
+  r_keeps p w z v (rel_on q (p_end {taken = taken} e)) = same_buffer (over_bytes q taken [])
 
   r_tie : Tie job [] old Rel
   r_tie = record { due = r_due; some = r_some; steps = r_steps; over = r_ends; values = r_values; counts = r_counts; keeps = r_keeps }

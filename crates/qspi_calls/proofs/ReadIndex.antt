@@ -105,16 +105,16 @@ module _ (f : Frame) (w : Wire) (v : ℕ) (s : Sound f w) where
 
   module _ (words : f.bytes % 4 ≡ 0) (few : f.bytes < 2 ^ 32) where
     -- 4 more, and no wrap
-    four-exact : awaits w.phase ≡ true → four_more w.read_index ≡ w.read_index + 4
-    four-exact e = never_wraps w.read_index (omega (arith, s.more e, few, s.fours, words))
+    four_exact : awaits w.phase ≡ true → four_more w.read_index ≡ w.read_index + 4
+    four_exact e = never_wraps w.read_index (omega (arith, s.more e, few, s.fours, words))
 
     took : awaits w.phase ≡ true → Sound f (reply_taken w f v)
     took e = go (ltb (four_more w.read_index) f.bytes) refl
       where
         go : (b : Bool) → ltb (four_more w.read_index) f.bytes ≡ b → Sound f (record { phase = choose b Wait CloseRead; config = w.config; sent = w.sent; read_index = four_more w.read_index; older = w.old; old = w.last; last = v })
         go b e₁ = record {
-          fours = rw (four-exact e) (omega (arith, s.fours));
-          within = rw (four-exact e) (omega (arith, s.fours, words, s.more e));
+          fours = rw (four_exact e) (omega (arith, s.fours));
+          within = rw (four_exact e) (omega (arith, s.fours, words, s.more e));
           more = λ h. before b e₁ h;
         }
           where
@@ -122,8 +122,8 @@ module _ (f : Frame) (w : Wire) (v : ℕ) (s : Sound f w) where
             before true k h = ltb-true (four_more w.read_index) f.bytes k
             before false k h = no h
 
-    sound-next : SoundMoved f (wire_next w f v)
-    sound-next = go w.phase refl
+    sound_next : SoundMoved f (wire_next w f v)
+    sound_next = go w.phase refl
       where
         go : (p : Phase) → w.phase ≡ p → SoundMoved f (next_at p w f v)
         go DrainStatus e = drained (waits v)
@@ -157,7 +157,7 @@ sound_bound : (limit : ℕ) (f : Frame) (w : Wire) → limit < 2 ^ 32 → f.byte
 sound_bound limit f w small h e s = record {
   most = omega (arith, h, s.within);
   before = λ t. omega (arith, h, e, s.fours, s.more (ap awaits t));
-  exact = λ t. four-exact f w 0 s e (omega (arith, h, small)) (ap awaits t);
+  exact = λ t. four_exact f w 0 s e (omega (arith, h, small)) (ap awaits t);
 }
 
 fresh_bound : (limit : ℕ) → Bound limit (fresh_wire DrainStatus)
@@ -193,7 +193,7 @@ module _ (job : Job) (limit : ℕ) (small : limit < 2 ^ 32) (At : Place → Type
         go false e = over e (bound_of p w q s)
 
     moves : (u' i' v : ℕ) → Held (moved (op p w u i a) u' i' v).op
-    moves u' i' v = go (wire_next w (frame_of job p) v) (sound-next (frame_of job p) w v s (h.fours p q) (omega (arith, h.most p q, small)))
+    moves u' i' v = go (wire_next w (frame_of job p) v) (sound_next (frame_of job p) w v s (h.fours p q) (omega (arith, h.most p q, small)))
       where
         go : (m : Moved) → SoundMoved (frame_of job p) m → Held (moved_by m (op p w u i a) u' i').op
         go (On x) k = goes q k
@@ -318,12 +318,12 @@ module _ (sequel : Sequel) (a n log largest : ℕ) (least : 128 ≤ largest) whe
     abbrev WorkHeld : Op → Type 0
     WorkHeld o = Held work_job (largest + 4) small (WorkAt largest) work_frames o
 
-    work-never : (o₀ o : Op) → WorkHeld o₀ → Later o₀ o → Never (largest + 4) o
-    work-never o₀ o k l = never_of (largest + 4) o (held_bound work_job (largest + 4) small (WorkAt largest) work_frames (held_later work_job (largest + 4) small (WorkAt largest) work_frames k l))
+    work_never : (o₀ o : Op) → WorkHeld o₀ → Later o₀ o → Never (largest + 4) o
+    work_never o₀ o k l = never_of (largest + 4) o (held_bound work_job (largest + 4) small (WorkAt largest) work_frames (held_later work_job (largest + 4) small (WorkAt largest) work_frames k l))
 
     -- refused at the start
-    work-over : (s : Status) → is_going s ≡ false → WorkHeld (start.over work_job s)
-    work-over s e = over e (fresh_bound (largest + 4))
+    work_over : (s : Status) → is_going s ≡ false → WorkHeld (start.over work_job s)
+    work_over s e = over e (fresh_bound (largest + 4))
 
 program_starts : (a n log : ℕ) (small : 244 < 2 ^ 32) (least : 128 ≤ 240) → WorkHeld Once a n log 240 least small (start.program_of a n log)
 program_starts a n log small least = go (ltb 16777215 (a + n)) (ltb 240 n) refl (eqb (n % 4) 0) refl (ltb 256 (a % 256 + n))
@@ -333,10 +333,10 @@ program_starts a n log small least = go (ltb 16777215 (a + n)) (ltb 240 n) refl 
         (start.pick x₁ (start.over (start.programming_job a n log) OutOfRange)
         (start.pick x₂ (start.over (start.programming_job a n log) DataTooLarge)
         (start.pick x₃ (start.pick x₄ (start.over (start.programming_job a n log) CrossesPageBoundary) (start.going (start.programming_job a n log) (start.place_at stage.Enable n 0 0))) (start.over (start.programming_job a n log) NotAligned))))
-    go true x₂ e₂ x₃ e₃ x₄ = work-over Once a n log 240 least small OutOfRange refl
-    go false true e₂ x₃ e₃ x₄ = work-over Once a n log 240 least small DataTooLarge refl
-    go false false e₂ false e₃ x₄ = work-over Once a n log 240 least small NotAligned refl
-    go false false e₂ true e₃ true = work-over Once a n log 240 least small CrossesPageBoundary refl
+    go true x₂ e₂ x₃ e₃ x₄ = work_over Once a n log 240 least small OutOfRange refl
+    go false true e₂ x₃ e₃ x₄ = work_over Once a n log 240 least small DataTooLarge refl
+    go false false e₂ false e₃ x₄ = work_over Once a n log 240 least small NotAligned refl
+    go false false e₂ true e₃ true = work_over Once a n log 240 least small CrossesPageBoundary refl
     go false false e₂ true e₃ false = goes (work_at is_enable (ltb-false 240 n e₂) (eqb-true (n % 4) 0 e₃)) (fresh_sound _)
 
 -- THEOREM. Of `program`, whatever its address and length, after every number of steps, whatever each is lent and handed: `read_index` is at most 244, at most 240 where a reply is about to be
@@ -345,13 +345,13 @@ pub program_never_wraps : (a n log : ℕ) (o : Op) → Later (start.program_of a
 program_never_wraps a n log o l =
     let small : 244 < 2 ^ 32 = omega arith in
     let least : 128 ≤ 240 = omega arith in
-    work-never Once a n log 240 least small (start.program_of a n log) o (program_starts a n log small least) l
+    work_never Once a n log 240 least small (start.program_of a n log) o (program_starts a n log small least) l
 
 pages_starts : (a n log : ℕ) (small : 132 < 2 ^ 32) (least : 128 ≤ 128) → WorkHeld Pages a n log 128 least small (start.write_pages_of a n log)
 pages_starts a n log small least = go (ltb 16777215 (a + n))
   where
     go : (x : Bool) → WorkHeld Pages a n log 128 least small (start.pick x (start.over (start.paging_job a n log) OutOfRange) (start.opened (start.paging_job a n log) (next_page (start.paging_job a n log) (start.place_at stage.Enable 0 0 0))))
-    go true = work-over Pages a n log 128 least small OutOfRange refl
+    go true = work_over Pages a n log 128 least small OutOfRange refl
     go false = goes (next_page_lem Pages a n log 128 least stage.Enable 0 0 0 0) (fresh_sound _)
 
 -- of `write_pages` it is at most 132: a chunk's bytes, and 4 for the reply to the command word
@@ -359,7 +359,7 @@ pub pages_never_wraps : (a n log : ℕ) (o : Op) → Later (start.write_pages_of
 pages_never_wraps a n log o l =
     let small : 132 < 2 ^ 32 = omega arith in
     let least : 128 ≤ 128 = omega arith in
-    work-never Pages a n log 128 least small (start.write_pages_of a n log) o (pages_starts a n log small least) l
+    work_never Pages a n log 128 least small (start.write_pages_of a n log) o (pages_starts a n log small least) l
 
 -- ---- the reads
 

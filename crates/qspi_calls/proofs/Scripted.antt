@@ -74,39 +74,39 @@ module _ (job : Job) (bytes buffer₀ : List ℕ) (At : Place → Transfer → (
     turned w t (over g e c f) = rw (e, g) (rel_over c g f)
     turned w t (more h) = turned w t h
 
-    rel-moved : (p : Place) {x : Transfer} {k : List ℕ → Script} {w : Wire} {taken : List ℕ} {z : State} {y : Moved} → At p x k → Goes x none k [] (counted_at job p) w taken z y
+    rel_moved : (p : Place) {x : Transfer} {k : List ℕ → Script} {w : Wire} {taken : List ℕ} {z : State} {y : Moved} → At p x k → Goes x none k [] (counted_at job p) w taken z y
         → Rel (moved_by y (o p w) 0 0).op.place (moved_by y (o p w) 0 0).op.wire (moved_by y (o p w) 0 0).op.status z
-    rel-moved p q (goes_on g) = rel_on refl q g
-    rel-moved p {x} {k} {w} {taken} q (goes_over c i b e f) = rw e (turned (wire Disable c i b taken) (turn_of job p (get_or taken 0 0)) (s.turn p x k q c i b taken f))
+    rel_moved p q (goes_on g) = rel_on refl q g
+    rel_moved p {x} {k} {w} {taken} q (goes_over c i b e f) = rw e (turned (wire Disable c i b taken) (turn_of job p (get_or taken 0 0)) (s.turn p x k q c i b taken f))
 
-    rel-due : (p : Place) (w : Wire) (z : State) → Rel p w Going z → access_of job p w bytes ≡ asked (want z)
-    rel-due p w z (rel_on {x = x} {k = k} c q h) = due_same job p bytes (s.same p x k q) (s.word p x k q) h
-    rel-due p w z (rel_over c g f) = no (sym g)
+    rel_due : (p : Place) (w : Wire) (z : State) → Rel p w Going z → access_of job p w bytes ≡ asked (want z)
+    rel_due p w z (rel_on {x = x} {k = k} c q h) = due_same job p bytes (s.same p x k q) (s.word p x k q) h
+    rel_due p w z (rel_over c g f) = no (sym g)
 
-    rel-some : (p : Place) (w : Wire) (z : State) → Rel p w Going z → want z ≡ nothing → ⊥
-    rel-some p w z (rel_on c q h) e = some_want h e
-    rel-some p w z (rel_over c g f) e = no (sym g)
+    rel_some : (p : Place) (w : Wire) (z : State) → Rel p w Going z → want z ≡ nothing → ⊥
+    rel_some p w z (rel_on c q h) e = some_want h e
+    rel_some p w z (rel_over c g f) e = no (sym g)
 
-    rel-steps : (p : Place) (w : Wire) (z : State) (v : ℕ) → Rel p w Going z → Rel (after job p w v).place (after job p w v).wire (after job p w v).status (next z v)
-    rel-steps p w z v (rel_on {x = x} {k = k} c q h) = rw c (rel-moved p q (wire_same x none k [] (counted_at job p) (frame_of job p) v (s.same p x k q) h))
-    rel-steps p w z v (rel_over c g f) = no (sym g)
+    rel_steps : (p : Place) (w : Wire) (z : State) (v : ℕ) → Rel p w Going z → Rel (after job p w v).place (after job p w v).wire (after job p w v).status (next z v)
+    rel_steps p w z v (rel_on {x = x} {k = k} c q h) = rw c (rel_moved p q (wire_same x none k [] (counted_at job p) (frame_of job p) v (s.same p x k q) h))
+    rel_steps p w z v (rel_over c g f) = no (sym g)
 
-    rel-ends : (p : Place) (w : Wire) (a : Status) (z : State) → Rel p w a z → is_going a ≡ false → (want z ≡ nothing) × (a ≡ status_in z)
-    rel-ends p w a z (rel_on c q h) e = no (sym e)
-    rel-ends p w a z (rel_over c g f) e = (refl, refl)
+    rel_ends : (p : Place) (w : Wire) (a : Status) (z : State) → Rel p w a z → is_going a ≡ false → (want z ≡ nothing) × (a ≡ status_in z)
+    rel_ends p w a z (rel_on c q h) e = no (sym e)
+    rel_ends p w a z (rel_over c g f) e = (refl, refl)
 
-    rel-values : (p : Place) (w : Wire) (a : Status) (z : State) → Rel p w a z → is_going a ≡ false → said_by a (given job w) ≡ said_by a (values_in z)
-    rel-values p w a z (rel_on c q h) e = no (sym e)
-    rel-values p w a z (rel_over c g f) e = f
+    rel_values : (p : Place) (w : Wire) (a : Status) (z : State) → Rel p w a z → is_going a ≡ false → said_by a (given job w) ≡ said_by a (values_in z)
+    rel_values p w a z (rel_on c q h) e = no (sym e)
+    rel_values p w a z (rel_over c g f) e = f
 
-    rel-counts : (p : Place) (w : Wire) (a : Status) (z : State) → Rel p w a z → count_in z ≡ counted_at job p
-    rel-counts p w a z (rel_on c q h) = c
-    rel-counts p w a z (rel_over c g f) = c
+    rel_counts : (p : Place) (w : Wire) (a : Status) (z : State) → Rel p w a z → count_in z ≡ counted_at job p
+    rel_counts p w a z (rel_on c q h) = c
+    rel_counts p w a z (rel_over c g f) = c
 
     -- no byte is brought, and the buffer stays
-    pub rel-bytes : {p : Place} {w : Wire} {a : Status} {z : State} → Rel p w a z → bytes_in z ≡ []
-    rel-bytes (rel_on c q h) = refl
-    rel-bytes (rel_over c g f) = refl
+    pub rel_bytes : {p : Place} {w : Wire} {a : Status} {z : State} → Rel p w a z → bytes_in z ≡ []
+    rel_bytes (rel_on c q h) = refl
+    rel_bytes (rel_over c g f) = refl
 
     unstored : (p : Place) (w : Wire) (v : ℕ) (buffer : List ℕ) → is_reading p.stage ≡ false → stored job p w v buffer ≡ buffer
     unstored p w v buffer e = rw e (go (is_taking w.phase))
@@ -115,14 +115,14 @@ module _ (job : Job) (bytes buffer₀ : List ℕ) (At : Place → Transfer → (
         go true = refl
         go false = refl
 
-    rel-unread : (p : Place) (w : Wire) (z : State) → Rel p w Going z → is_reading p.stage ≡ false
-    rel-unread p w z (rel_on {x = x} {k = k} c q h) = s.unread p x k q
-    rel-unread p w z (rel_over c g f) = no (sym g)
+    rel_unread : (p : Place) (w : Wire) (z : State) → Rel p w Going z → is_reading p.stage ≡ false
+    rel_unread p w z (rel_on {x = x} {k = k} c q h) = s.unread p x k q
+    rel_unread p w z (rel_over c g f) = no (sym g)
 
-    rel-keeps : (p : Place) (w : Wire) (z : State) (v : ℕ) → Rel p w Going z → stored job p w v (overlaid (bytes_in z) buffer₀) ≡ overlaid (bytes_in (next z v)) buffer₀
-    rel-keeps p w z v q =
-        unstored p w v (overlaid (bytes_in z) buffer₀) (rel-unread p w z q)
-        ∙ ap (λ (b : List ℕ). overlaid b buffer₀) (rel-bytes q ∙ sym (rel-bytes (rel-steps p w z v q)))
+    rel_keeps : (p : Place) (w : Wire) (z : State) (v : ℕ) → Rel p w Going z → stored job p w v (overlaid (bytes_in z) buffer₀) ≡ overlaid (bytes_in (next z v)) buffer₀
+    rel_keeps p w z v q =
+        unstored p w v (overlaid (bytes_in z) buffer₀) (rel_unread p w z q)
+        ∙ ap (λ (b : List ℕ). overlaid b buffer₀) (rel_bytes q ∙ sym (rel_bytes (rel_steps p w z v q)))
 
-    pub script-tie : Tie job bytes buffer₀ Rel
-    script-tie = record { due = rel-due; some = rel-some; steps = rel-steps; over = rel-ends; values = rel-values; counts = rel-counts; keeps = rel-keeps }
+    pub script_tie : Tie job bytes buffer₀ Rel
+    script_tie = record { due = rel_due; some = rel_some; steps = rel_steps; over = rel_ends; values = rel_values; counts = rel_counts; keeps = rel_keeps }

@@ -35,7 +35,7 @@ use Rattle.qspi_calls.specs.declared.start.Config.{Config}
 use Rattle.qspi_calls.specs.declared.start.Latency.{Latency}
 use Rattle.qspi_calls.specs.declared.start.Latency.TheVariants.{AsRead, Code}
 use Rattle.qspi_calls.proofs.Phases.{wire, words, Same, p_drain}
-use Rattle.qspi_calls.proofs.Scripted.{Turns, on, again, over, Scripted, Rel, rel_on, script-tie, turned, rel-bytes}
+use Rattle.qspi_calls.proofs.Scripted.{Turns, on, again, over, Scripted, Rel, rel_on, script_tie, turned, rel_bytes}
 use Rattle.qspi_calls.proofs.Short.{of_one, same_short, word_short, ended_at_start}
 use Rattle.qspi_calls.proofs.Tied.{Starts}
 use Rattle.qspi_calls.proofs.ProgramWords.{length_words, data_word_lem, all_prefilled}
@@ -55,7 +55,7 @@ begins job bytes log At s p x k q n d l b = record {
   status = Going;
   is = refl;
   Rel = Rel job bytes [] At;
-  tie = script-tie job bytes [] At s;
+  tie = script_tie job bytes [] At s;
   rel = rel_on n q p_drain;
   lent_data = d;
   lent_log = l;
@@ -73,12 +73,12 @@ opens job bytes log At s t z q d l b = record {
   status = t.status;
   is = ap (λ (w : Wire). record { job = job; place = t.place; wire = w; used = 0; replies = 0; status = t.status }) (sym (one-wire (is_going t.status) (fresh_wire phase.DrainStatus)));
   Rel = Rel job bytes [] At;
-  tie = script-tie job bytes [] At s;
+  tie = script_tie job bytes [] At s;
   rel = turned job bytes [] At s (fresh_wire phase.DrainStatus) t q;
   lent_data = d;
   lent_log = l;
   lent_buffer = b;
-  unread = rel-bytes job bytes [] At s (turned job bytes [] At s (fresh_wire phase.DrainStatus) t q);
+  unread = rel_bytes job bytes [] At s (turned job bytes [] At s (fresh_wire phase.DrainStatus) t q);
 }
   where
     one-wire : (b : Bool) (w : Wire) → pick_wire b w w ≡ w
@@ -117,31 +117,31 @@ module _ (s : Stage) (x : Transfer) (sr cr : ℕ) (log : List ℕ) where
 
   module _ (going : status_of s ≡ Going) (ends-here : (r : ℕ) → turn_at s enabled_job (start.place_at s 0 sr cr) r ≡ finish (start.place_at s 0 sr cr) Done) (same : Same (frame_at s enabled_job 0) x)
       (word : (i : ℕ) → i < length (words x) → due_word enabled_job (start.place_at s 0 sr cr) i [] ≡ get_or (words x) i 0) (one : x.replies ≡ 1) (unread : is_reading s ≡ false) where
-    e-same : (p : Place) (y : Transfer) (k : List ℕ → Script) → Enabled p y k → Same (frame_of enabled_job p) y
-    e-same p y k first_enable = same_short 0x80 _
-    e-same p y k first_then = same
+    e_same : (p : Place) (y : Transfer) (k : List ℕ → Script) → Enabled p y k → Same (frame_of enabled_job p) y
+    e_same p y k first_enable = same_short 0x80 _
+    e_same p y k first_then = same
 
-    e-word : (p : Place) (y : Transfer) (k : List ℕ → Script) → Enabled p y k → (i : ℕ) → i < length (words y) → due_word enabled_job p i [] ≡ get_or (words y) i 0
-    e-word p y k first_enable = word_short enabled_job p [] 0x80 _ refl
-    e-word p y k first_then = word
+    e_word : (p : Place) (y : Transfer) (k : List ℕ → Script) → Enabled p y k → (i : ℕ) → i < length (words y) → due_word enabled_job p i [] ≡ get_or (words y) i 0
+    e_word p y k first_enable = word_short enabled_job p [] 0x80 _ refl
+    e_word p y k first_then = word
 
-    e-turn : (p : Place) (y : Transfer) (k : List ℕ → Script) → Enabled p y k → (c i b : ℕ) (taken : List ℕ) → length taken ≡ y.replies
+    e_turn : (p : Place) (y : Transfer) (k : List ℕ → Script) → Enabled p y k → (c i b : ℕ) (taken : List ℕ) → length taken ≡ y.replies
         → Turns enabled_job [] [] Enabled (turn_of enabled_job p (get_or taken 0 0)) (wire phase.Disable c i b taken) (counted_at enabled_job p) (k (reverse taken))
-    e-turn p y k first_enable c i b taken e = one_reply enabled_job [] Enabled p c i b taken k e (λ r. on going refl first_then)
-    e-turn p y k first_then c i b taken e = one_reply enabled_job [] Enabled p c i b taken k (e ∙ one) (λ r. rw (ends-here r) (over refl refl refl refl))
+    e_turn p y k first_enable c i b taken e = one_reply enabled_job [] Enabled p c i b taken k e (λ r. on going refl first_then)
+    e_turn p y k first_then c i b taken e = one_reply enabled_job [] Enabled p c i b taken k (e ∙ one) (λ r. rw (ends-here r) (over refl refl refl refl))
 
-    e-unread : (p : Place) (y : Transfer) (k : List ℕ → Script) → Enabled p y k → is_reading p.stage ≡ false
-    e-unread p y k first_enable = refl
-    e-unread p y k first_then = unread
+    e_unread : (p : Place) (y : Transfer) (k : List ℕ → Script) → Enabled p y k → is_reading p.stage ≡ false
+    e_unread p y k first_enable = refl
+    e_unread p y k first_then = unread
 
-    pub enabled-then : Starts (start.enabled_then s sr cr (length log)) [] log [] (call.enabled_then x)
-    enabled-then = begins enabled_job [] log Enabled (record { same = e-same; word = e-word; turn = e-turn; unread = e-unread }) _ _ _ first_enable refl refl refl refl
+    pub enabled_then_lem : Starts (start.enabled_then s sr cr (length log)) [] log [] (call.enabled_then x)
+    enabled_then_lem = begins enabled_job [] log Enabled (record { same = e_same; word = e_word; turn = e_turn; unread = e_unread }) _ _ _ first_enable refl refl refl refl
 
 pub write_status_lem : (sr : ℕ) (log : List ℕ) → Starts (start.enabled_then stage.WriteStatus sr 0 (length log)) [] log [] (call.write_status sr)
-write_status_lem sr log = enabled-then stage.WriteStatus (status_writing sr) sr 0 log refl (λ r. refl) (same_short 0x84 _) (word_short (start.command_job (start.enabled stage.WriteStatus) (length log)) (start.place_at stage.WriteStatus 0 sr 0) [] 0x84 _ refl) refl refl
+write_status_lem sr log = enabled_then_lem stage.WriteStatus (status_writing sr) sr 0 log refl (λ r. refl) (same_short 0x84 _) (word_short (start.command_job (start.enabled stage.WriteStatus) (length log)) (start.place_at stage.WriteStatus 0 sr 0) [] 0x84 _ refl) refl refl
 
 pub write_registers_lem : (sr cr : ℕ) (log : List ℕ) → Starts (start.enabled_then stage.WriteRegisters sr cr (length log)) [] log [] (call.write_registers sr cr)
-write_registers_lem sr cr log = enabled-then stage.WriteRegisters (registers_writing sr cr) sr cr log refl (λ r. refl) (same_short 0x88 _) (word_short (start.command_job (start.enabled stage.WriteRegisters) (length log)) (start.place_at stage.WriteRegisters 0 sr cr) [] 0x88 _ refl) refl refl
+write_registers_lem sr cr log = enabled_then_lem stage.WriteRegisters (registers_writing sr cr) sr cr log refl (λ r. refl) (same_short 0x88 _) (word_short (start.command_job (start.enabled stage.WriteRegisters) (length log)) (start.place_at stage.WriteRegisters 0 sr cr) [] 0x88 _ refl) refl refl
 
 -- ---- new
 
@@ -275,19 +275,19 @@ module _ (work : Stage) (erases : Bool) (next : Sequel) (failure : Status) (bit 
       (word : (d n : ℕ) (x : Transfer) (then : Script) → Ready d n x then → (i : ℕ) → i < length (words x) → due_word work_job (work_at work d n) i bytes ≡ get_or (words x) i 0)
       (clean : (d n : ℕ) (x : Transfer) (then : Script) (w : Wire) → Ready d n x then → Turns work_job bytes [] Working (settled work_job (work_at stage.Poll d n)) w (counted_at work_job (work_at stage.Poll d n)) then)
       (unread : is_reading work ≡ false) (fails : is_going failure ≡ false) (error : (st : ℕ) → failed work_job.script st ≡ is_set bit st) where
-    w-same : (p : Place) (y : Transfer) (k : List ℕ → Script) → Working p y k → Same (frame_of work_job p) y
-    w-same p y k (settle_enable q) = same_short 0x80 _
-    w-same p y k (settle_work {d} {n} {x} {then} q) = same d n x then q
-    w-same p y k (settle_poll q) = same_short 0x84 _
-    w-same p y k settle_clear = same_short 0x80 _
-    w-same p y k settle_disable = same_short 0x80 _
+    w_same : (p : Place) (y : Transfer) (k : List ℕ → Script) → Working p y k → Same (frame_of work_job p) y
+    w_same p y k (settle_enable q) = same_short 0x80 _
+    w_same p y k (settle_work {d} {n} {x} {then} q) = same d n x then q
+    w_same p y k (settle_poll q) = same_short 0x84 _
+    w_same p y k settle_clear = same_short 0x80 _
+    w_same p y k settle_disable = same_short 0x80 _
 
-    w-word : (p : Place) (y : Transfer) (k : List ℕ → Script) → Working p y k → (i : ℕ) → i < length (words y) → due_word work_job p i bytes ≡ get_or (words y) i 0
-    w-word p y k (settle_enable q) = word_short work_job p bytes 0x80 _ refl
-    w-word p y k (settle_work {d} {n} {x} {then} q) = word d n x then q
-    w-word p y k (settle_poll q) = word_short work_job p bytes 0x84 _ refl
-    w-word p y k settle_clear = word_short work_job p bytes 0x80 _ refl
-    w-word p y k settle_disable = word_short work_job p bytes 0x80 _ refl
+    w_word : (p : Place) (y : Transfer) (k : List ℕ → Script) → Working p y k → (i : ℕ) → i < length (words y) → due_word work_job p i bytes ≡ get_or (words y) i 0
+    w_word p y k (settle_enable q) = word_short work_job p bytes 0x80 _ refl
+    w_word p y k (settle_work {d} {n} {x} {then} q) = word d n x then q
+    w_word p y k (settle_poll q) = word_short work_job p bytes 0x84 _ refl
+    w_word p y k settle_clear = word_short work_job p bytes 0x80 _ refl
+    w_word p y k settle_disable = word_short work_job p bytes 0x80 _ refl
 
     polled : (d n : ℕ) (x : Transfer) (then : Script) (e b : Bool) (w : Wire) → Ready d n x then
         → Turns work_job bytes [] Working (pick e (begin (work_at stage.Poll d n) stage.Clear) (pick b (begin (work_at stage.Poll d n) stage.Poll) (settled work_job (work_at stage.Poll d n)))) w (counted_at work_job (work_at stage.Poll d n))
@@ -296,24 +296,24 @@ module _ (work : Stage) (erases : Bool) (next : Sequel) (failure : Status) (bit 
     polled d n x then false true w q = again refl refl (settle_poll q)
     polled d n x then false false w q = clean d n x then w q
 
-    w-turn : (p : Place) (y : Transfer) (k : List ℕ → Script) → Working p y k → (c i b : ℕ) (taken : List ℕ) → length taken ≡ y.replies
+    w_turn : (p : Place) (y : Transfer) (k : List ℕ → Script) → Working p y k → (c i b : ℕ) (taken : List ℕ) → length taken ≡ y.replies
         → Turns work_job bytes [] Working (turn_of work_job p (get_or taken 0 0)) (wire phase.Disable c i b taken) (counted_at work_job p) (k (reverse taken))
-    w-turn p y k (settle_enable q) c i b taken e = one_reply work_job bytes Working p c i b taken k e (λ r. on going refl (settle_work q))
-    w-turn p y k (settle_work {d} {n} q) c i b taken e = rw (polls d n (get_or taken 0 0)) (again refl refl (settle_poll q))
-    w-turn p y k (settle_poll {d} {n} {x} {then} q) c i b taken e =
+    w_turn p y k (settle_enable q) c i b taken e = one_reply work_job bytes Working p c i b taken k e (λ r. on going refl (settle_work q))
+    w_turn p y k (settle_work {d} {n} q) c i b taken e = rw (polls d n (get_or taken 0 0)) (again refl refl (settle_poll q))
+    w_turn p y k (settle_poll {d} {n} {x} {then} q) c i b taken e =
         one_reply work_job bytes Working p c i b taken k e (λ r. rw (error (top_byte r)) (polled d n x then (is_set bit (top_byte r)) (is_set 0 (top_byte r)) (wire phase.Disable c i b (r ∷ [])) q))
-    w-turn p y k settle_clear c i b taken e = one_reply work_job bytes Working p c i b taken k e (λ r. on refl refl settle_disable)
-    w-turn p y k settle_disable c i b taken e = one_reply work_job bytes Working p c i b taken k e (λ r. over fails refl refl refl)
+    w_turn p y k settle_clear c i b taken e = one_reply work_job bytes Working p c i b taken k e (λ r. on refl refl settle_disable)
+    w_turn p y k settle_disable c i b taken e = one_reply work_job bytes Working p c i b taken k e (λ r. over fails refl refl refl)
 
-    w-unread : (p : Place) (y : Transfer) (k : List ℕ → Script) → Working p y k → is_reading p.stage ≡ false
-    w-unread p y k (settle_enable q) = refl
-    w-unread p y k (settle_work q) = unread
-    w-unread p y k (settle_poll q) = refl
-    w-unread p y k settle_clear = refl
-    w-unread p y k settle_disable = refl
+    w_unread : (p : Place) (y : Transfer) (k : List ℕ → Script) → Working p y k → is_reading p.stage ≡ false
+    w_unread p y k (settle_enable q) = refl
+    w_unread p y k (settle_work q) = unread
+    w_unread p y k (settle_poll q) = refl
+    w_unread p y k settle_clear = refl
+    w_unread p y k settle_disable = refl
 
-    pub working-scripted : Scripted work_job bytes [] Working
-    working-scripted = record { same = w-same; word = w-word; turn = w-turn; unread = w-unread }
+    pub working_scripted : Scripted work_job bytes [] Working
+    working_scripted = record { same = w_same; word = w_word; turn = w_turn; unread = w_unread }
 
 -- one work, and the call is done
 data Alone (n₀ : ℕ) (x₀ : Transfer) : ℕ → ℕ → Transfer → Script → Type 0 where
@@ -332,17 +332,17 @@ module _ (work : Stage) (erases : Bool) (failure : Status) (bit a : ℕ) (bytes 
     lone_same : (d m : ℕ) (y : Transfer) (then : Script) → Alone n x d m y then → Same (frame_at work lone_job m) y
     lone_same d m y then alone = same
 
-    lone-word : (d m : ℕ) (y : Transfer) (then : Script) → Alone n x d m y then → (i : ℕ) → i < length (words y)
+    lone_word : (d m : ℕ) (y : Transfer) (then : Script) → Alone n x d m y then → (i : ℕ) → i < length (words y)
         → due_word lone_job (record { stage = work; done = d; chunk = m; sr = 0; cr = 0 }) i bytes ≡ get_or (words y) i 0
-    lone-word d m y then alone = word
+    lone_word d m y then alone = word
 
-    lone-clean : (d m : ℕ) (y : Transfer) (then : Script) (w : Wire) → Alone n x d m y then
+    lone_clean : (d m : ℕ) (y : Transfer) (then : Script) (w : Wire) → Alone n x d m y then
         → Turns lone_job bytes [] Lone (settled lone_job (record { stage = stage.Poll; done = d; chunk = m; sr = 0; cr = 0 })) w 0 then
-    lone-clean d m y then w alone = over refl refl refl refl
+    lone_clean d m y then w alone = over refl refl refl refl
 
     pub working : Starts (start.going lone_job (start.place_at stage.Enable n 0 0)) bytes log [] (call.working bit failure x (ends Done []))
     working =
-        begins lone_job bytes log Lone (working-scripted work erases Once failure bit a bytes log (Alone n x) going polls lone_same lone-word lone-clean unread fails error) _ _ _ (settle_enable alone) refl refl refl refl
+        begins lone_job bytes log Lone (working_scripted work erases Once failure bit a bytes log (Alone n x) going polls lone_same lone_word lone_clean unread fails error) _ _ _ (settle_enable alone) refl refl refl refl
 
 pub erase_sector_lem : (a : ℕ) (log : List ℕ) → Starts (start.erase_sector a (length log)) [] log [] (call.erase_sector a)
 erase_sector_lem a log = go (ltb 16777215 (a + 65536)) (eqb (a % 65536) 0)

@@ -25,7 +25,7 @@ use Rattle.qspi_calls.specs.Calls.{short}
 use Rattle.qspi_calls.specs.Starts as start
 use Rattle.qspi_calls.proofs.Tied.{given, Tie, Starts}
 use Rattle.qspi_calls.proofs.Phases.{wire, words, Same, p_drain}
-use Rattle.qspi_calls.proofs.Scripted.{Turns, Rel, rel_on, script-tie}
+use Rattle.qspi_calls.proofs.Scripted.{Turns, Rel, rel_on, script_tie}
 
 -- the replies of a transfer that takes one, or three
 pub of_one : (taken : List ℕ) (P : List ℕ → Type 0) → length taken ≡ 1 → ((r : ℕ) → P (r ∷ [])) → P taken
@@ -77,7 +77,7 @@ module _ (job : Job) (p : Place) (buffer : List ℕ) (x : Transfer) (k : List �
     status = Going;
     is = refl;
     Rel = Rel job [] buffer (Only p x k);
-    tie = script-tie job [] buffer (Only p x k) (record { same = only_same; word = only_word; turn = only_turn; unread = only_unread });
+    tie = script_tie job [] buffer (Only p x k) (record { same = only_same; word = only_word; turn = only_turn; unread = only_unread });
     rel = rel_on n only p_drain;
     lent_data = d;
     lent_log = l;

@@ -113,17 +113,17 @@ module _ (job : Job) (g : Lending) (lent : job.lent ≡ lengths_of g) (fits : g.
     abbrev o : Op
     o = op p w (2 * length l) (reads_of l) Going
 
-    verdict-is : (r : Reply) → verdict_of o g.bytes (length g.buffer) g.room r ≡ judged (leb (2 * length l + 2) g.room) (want s) r
-    verdict-is r = rw (same_all, t.due p w s q)
+    verdict_is : (r : Reply) → verdict_of o g.bytes (length g.buffer) g.room r ≡ judged (leb (2 * length l + 2) g.room) (want s) r
+    verdict_is r = rw (same_all, t.due p w s q)
 
-    wide-next : (v : ℕ) → Wide (next s v)
-    wide-next v = ap length (sym (t.keeps p w s v q)) ∙ stored_kept job p w v (overlaid (bytes_in s) g.buffer) ∙ z
+    wide_next : (v : ℕ) → Wide (next s v)
+    wide_next v = ap length (sym (t.keeps p w s v q)) ∙ stored_kept job p w v (overlaid (bytes_in s) g.buffer) ∙ z
 
     stops : (a : Status) → is_going a ≡ false → said_by a (given job w) ≡ said_by a (values_in s) → Inv (at s l a) (op p w (2 * length l) (reads_of l) a)
     stops a e f = over e f (t.counts p w Going s q) z
 
     made_one : (v i : ℕ) (a : Access) → i ≡ reads_of (l ++ a ∷ []) → 2 * length l + 2 ≤ g.room → Inv (reached (next s v) (l ++ a ∷ [])) (moved o (2 * length l + 2) i v).op
-    made_one v i a e h = rw (moved_is p w (2 * length l) (reads_of l) (2 * length l + 2) i v) (settled (l ++ a ∷ []) (2 * length l + 2) i (t.steps p w s v q) (sym (long_last l a)) e h (wide-next v))
+    made_one v i a e h = rw (moved_is p w (2 * length l) (reads_of l) (2 * length l + 2) i v) (settled (l ++ a ∷ []) (2 * length l + 2) i (t.steps p w s v q) (sym (long_last l a)) e h (wide_next v))
 
     step_by : (b : Bool) → leb (2 * length l + 2) g.room ≡ b → (x : Want) → want s ≡ x → (r : Reply) → Inv (room_for b x r (at s l Going)) (act (judged b x r) o).op
     step_by b e nothing f r = absurd (t.some p w s q f)
@@ -138,48 +138,48 @@ module _ (job : Job) (g : Lending) (lent : job.lent ≡ lengths_of g) (fits : g.
         let i : reads_of l ≡ reads_of (l ++ access.Write k v ∷ []) = omega (arith, reads_last l (access.Write k v)) in
         made_one v _ (access.Write k v) i (leb-true (2 * length l + 2) g.room e)
 
-    due-by : (x : Want) → want s ≡ x → shown (asked x) ≡ asked_for x
-    due-by nothing f = absurd (t.some p w s q f)
-    due-by (reads k) f = refl
-    due-by (writes k v) f = refl
+    due_by : (x : Want) → want s ≡ x → shown (asked x) ≡ asked_for x
+    due_by nothing f = absurd (t.some p w s q f)
+    due_by (reads k) f = refl
+    due_by (writes k v) f = refl
 
     two : (log : List ℕ) (x y : ℕ) → written log (2 * length l) x y ≡ sets log (2 * length l) (x ∷ y ∷ [])
     two log x y = let e : 2 * length l + 1 ≡ suc (2 * length l) = add-one (2 * length l) in rw e
 
-    log-by : (b : Bool) (x : Want) → want s ≡ x → (r : Reply) (log : List ℕ) → noted (judged b x r) (2 * length l) log ≡ sets log (2 * length l) (encode (access_if b x r))
+    log_by : (b : Bool) (x : Want) → want s ≡ x → (r : Reply) (log : List ℕ) → noted (judged b x r) (2 * length l) log ≡ sets log (2 * length l) (encode (access_if b x r))
     unfolding encode
-    log-by b nothing f r log = absurd (t.some p w s q f)
-    log-by false (reads k) f r log = refl
-    log-by false (writes k v) f r log = refl
-    log-by true (reads k) f (Word v) log = two log (0x100 + k) v
-    log-by true (reads k) f Nothing log = refl
-    log-by true (writes k v) f r log = two log k v
+    log_by b nothing f r log = absurd (t.some p w s q f)
+    log_by false (reads k) f r log = refl
+    log_by false (writes k v) f r log = refl
+    log_by true (reads k) f (Word v) log = two log (0x100 + k) v
+    log_by true (reads k) f Nothing log = refl
+    log_by true (writes k v) f r log = two log k v
 
-    buffer-by : (b : Bool) (x : Want) → want s ≡ x → (r : Reply) → taken (judged b x r) o (overlaid (bytes_in s) g.buffer) ≡ overlaid (bytes_in (room_for b x r (at s l Going)).state) g.buffer
-    buffer-by b nothing f r = absurd (t.some p w s q f)
-    buffer-by false (reads k) f r = refl
-    buffer-by false (writes k v) f r = refl
-    buffer-by true (reads k) f (Word v) = t.keeps p w s v q
-    buffer-by true (reads k) f Nothing = refl
-    buffer-by true (writes k v) f r = t.keeps p w s v q
+    buffer_by : (b : Bool) (x : Want) → want s ≡ x → (r : Reply) → taken (judged b x r) o (overlaid (bytes_in s) g.buffer) ≡ overlaid (bytes_in (room_for b x r (at s l Going)).state) g.buffer
+    buffer_by b nothing f r = absurd (t.some p w s q f)
+    buffer_by false (reads k) f r = refl
+    buffer_by false (writes k v) f r = refl
+    buffer_by true (reads k) f (Word v) = t.keeps p w s v q
+    buffer_by true (reads k) f Nothing = refl
+    buffer_by true (writes k v) f r = t.keeps p w s v q
 
-    shows-going : Shows g (at s l Going) o
-    shows-going = record {
+    shows_going : Shows g (at s l Going) o
+    shows_going = record {
       lent = lent;
       status = refl;
       answer = rw (t.counts p w Going s q);
-      due = rw (eq-eqb (length g.bytes) job.lent.«data» (ap (λ (y : Lent). y.«data») (sym lent)), t.due p w s q) (due-by (want s) refl);
-      logged = λ r log e. rw (e, verdict-is r) (log-by (leb (2 * length l + 2) g.room) (want s) refl r log);
+      due = rw (eq-eqb (length g.bytes) job.lent.«data» (ap (λ (y : Lent). y.«data») (sym lent)), t.due p w s q) (due_by (want s) refl);
+      logged = λ r log e. rw (e, verdict_is r) (log_by (leb (2 * length l + 2) g.room) (want s) refl r log);
       wide = z;
-      stored = λ r. rw (z, verdict-is r) (buffer-by (leb (2 * length l + 2) g.room) (want s) refl r);
+      stored = λ r. rw (z, verdict_is r) (buffer_by (leb (2 * length l + 2) g.room) (want s) refl r);
     }
 
-    steps-going : (r : Reply) → Inv (step_at g.room r (at s l Going)) (step_of o g.bytes (length g.buffer) g.room r).op
-    steps-going r = rw (verdict-is r) (step_by (leb (2 * length l + 2) g.room) refl (want s) refl r)
+    steps_going : (r : Reply) → Inv (step_at g.room r (at s l Going)) (step_of o g.bytes (length g.buffer) g.room r).op
+    steps_going r = rw (verdict_is r) (step_by (leb (2 * length l + 2) g.room) refl (want s) refl r)
 
   shows_of : {p : Point} {o : Op} → Inv p o → Shows g p o
   unfolding encode
-  shows_of (goes {l = l} q e z) = shows-going l q z
+  shows_of (goes {l = l} q e z) = shows_going l q z
   shows_of (over {p} {w} {s} {l} {a} e f h z) = record {
     lent = lent;
     status = refl;
@@ -195,7 +195,7 @@ module _ (job : Job) (g : Lending) (lent : job.lent ≡ lengths_of g) (fits : g.
   }
 
   step_of_lem : {p : Point} {o : Op} (r : Reply) → Inv p o → Inv (step_at g.room r p) (step_of o g.bytes (length g.buffer) g.room r).op
-  step_of_lem r (goes {l = l} q e z) = steps-going l q z r
+  step_of_lem r (goes {l = l} q e z) = steps_going l q z r
   step_of_lem r (over {p} {w} {s} {l} {a} e f h z) =
       let u : (step_of (op p w (2 * length l) (reads_of l) a) g.bytes (length g.buffer) g.room r).op ≡ op p w (2 * length l) (reads_of l) a = rw e in
       subst (λ (x : Point). Inv x (step_of (op p w (2 * length l) (reads_of l) a) g.bytes (length g.buffer) g.room r).op) (sym (stays g.room r (at s l a) e).0) (subst (Inv (at s l a)) (sym u) (over e f h z))

@@ -20,7 +20,7 @@ use Rattle.qspi_operation.specs.Run as by-counters
 use Rattle.qspi_operation.specs.Run.{Run, run_of}
 use Rattle.qspi_operation.specs.Points.{Point, step_at, answer_at, logged_at}
 use Rattle.qspi_operation.specs.Follows.{Shows, Follows, answer_by, RunFollows, StepFollows, OnStep}
-use Rattle.qspi_operation.proofs.Following.{on-run}
+use Rattle.qspi_operation.proofs.Following.{on_run}
 use Rattle.qspi_operation.proofs.Verdicts.{no}
 use Rattle.qspi_calls.specs.Sectors.{numbers, numbers_in}
 use Rattle.qspi_calls.specs.Begins.{BeginsList}
@@ -115,7 +115,7 @@ module _ (l rs log : List ℕ) (fits : length log < 2 ^ 64) (d : Driver) {r : Dr
       let s : Stepped = record { op = r.driver.state.op; answer = run.answer } in
       let h : by-counters.Ran s run.buffer log₁ run = record { op = ap (λ (x : Driver). x.state.op) (driver-is ∙ ap (λ (x : Drive). x.driver) at); answer = refl; stored = refl; logged = log_is ∙ ap (λ (x : Drive). x.log) at } in
       let m : take o.job.lent.«data» (numbers_in 256 l) ≡ take (min (length l) 256) (numbers_in 256 l) = ap (λ (k : ℕ). take k (numbers_in 256 l)) (lent_long l (length log) b) ∙ few (length l) (numbers_in 256 l) (length_in 256 l) in
-      let f = subst (λ (z : List ℕ). RunFollows o z [] log rs s run.buffer log₁) m (on-run o (take o.job.lent.«data» (numbers_in 256 l)) [] log rs h) in
+      let f = subst (λ (z : List ℕ). RunFollows o z [] log rs s run.buffer log₁) m (on_run o (take o.job.lent.«data» (numbers_in 256 l)) [] log rs h) in
       let p = promise.promised l rs log b refl refl f refl refl refl in
       record { status = run.answer; given = answer-is ∙ ap (λ (x : Drive). x.answer) at; answer = p.answer; place = p.place; logged = p.logged; singles = promise.single l rs log p; shown = promise.cleared l rs log p }
 

@@ -17,7 +17,7 @@ use Rattle.qspi_operation.specs.Run as by-counters
 use Rattle.qspi_operation.specs.Points.{Lending, same_as, Point}
 use Rattle.qspi_operation.specs.Follows.{Follows, Begun, RunFollows}
 use Rattle.qspi_operation.proofs.Runs.{run_ends}
-use Rattle.qspi_operation.proofs.Following.{on-run}
+use Rattle.qspi_operation.proofs.Following.{on_run}
 use Rattle.qspi_script.specs.declared.Stage.TheVariants.{Enable}
 use Rattle.qspi_script.specs.declared.Gives.TheVariants.{Nothing}
 use Rattle.qspi_script.specs.Answer.{Answered}
@@ -95,7 +95,7 @@ module _ (d : Driver) (o : Op) (bytes replies buffer log : List ℕ) where
   rest_calls c g s d₀ b l e k =
       let x = run_of o bytes replies buffer log in
       let h : by-counters.Ran (record { op = x.op; answer = x.answer }) x.buffer x.log x = record { op = refl; answer = refl; stored = refl; logged = refl } in
-      let f : RunFollows o g.bytes buffer log replies (record { op = x.op; answer = x.answer }) x.buffer x.log = subst (λ (z : List ℕ). RunFollows o z buffer log replies (record { op = x.op; answer = x.answer }) x.buffer x.log) d₀ (on-run o bytes buffer log replies h) in
+      let f : RunFollows o g.bytes buffer log replies (record { op = x.op; answer = x.answer }) x.buffer x.log = subst (λ (z : List ℕ). RunFollows o z buffer log replies (record { op = x.op; answer = x.answer }) x.buffer x.log) d₀ (on_run o bytes buffer log replies h) in
       let w = whole_call c g s f b l in
       let r = rest_runs e k in
       (ap (λ (x : Drive). x.answer) r ∙ ap Given (said_fixes _ _ _ _ (ap (λ (y : Answered). y.says) w.answer)), (ap (λ (x : Drive). x.log) r ∙ w.logged, ap (λ (x : Drive). x.buffer) r ∙ w.stored))
@@ -126,5 +126,5 @@ module _ (d : Driver) (o : Op) (bytes replies buffer log : List ℕ) where
       by-test true e = ap (λ (x : Drive). is_going x.driver.state.op.status) (busy_runs_not e) ∙ (e ∙ ap (λ (b : Bool). b || (is_going p.answer && not (same_as g (length bytes) (length buffer) (length log)))) (sym e))
       by-test false e =
           ap (λ (x : Drive). is_going x.driver.state.op.status) (rest_runs e k)
-          ∙ ((on-run o bytes buffer log replies {s = record { op = (run_of o bytes replies buffer log).op; answer = (run_of o bytes replies buffer log).answer }} (record { op = refl; answer = refl; stored = refl; logged = refl }) g p f).due
+          ∙ ((on_run o bytes buffer log replies {s = record { op = (run_of o bytes replies buffer log).op; answer = (run_of o bytes replies buffer log).answer }} (record { op = refl; answer = refl; stored = refl; logged = refl }) g p f).due
           ∙ ap (λ (b : Bool). b || (is_going p.answer && not (same_as g (length bytes) (length buffer) (length log)))) (sym e))

@@ -67,8 +67,8 @@ module _ (bytes rs : List ℕ) where
       turned x k = turn (is_going x) x d.state.op (lent d bytes) rs buffer log stepped _ _ k refl refl refl
 
       -- the run from there, on what the stepped operation is lent: it is what it was
-      on-from : (x : Status) → is_going x ≡ true → finished_of (driver_of (stepped_of d.state (lent d bytes) (length buffer) (length log) (reply_of rs d.state.op.replies)).state d.list) (Given stepped.answer) bytes rs buffer₁ log₁ ≡ finished_of d (Given x) bytes rs buffer log
-      on-from x k =
+      on_from : (x : Status) → is_going x ≡ true → finished_of (driver_of (stepped_of d.state (lent d bytes) (length buffer) (length log) (reply_of rs d.state.op.replies)).state d.list) (Given stepped.answer) bytes rs buffer₁ log₁ ≡ finished_of d (Given x) bytes rs buffer log
+      on_from x k =
           ap (λ (l : List ℕ). reached d.list (run_at (fuel stepped.op log₁) (is_going stepped.answer) stepped.answer stepped.op l rs buffer₁ log₁)) (lent_kept d.state.op (lent d bytes) (length buffer) (length log) (reply_of rs d.state.op.replies) d.list.numbers bytes)
           ∙ ap (reached d.list) (sym (turned x k).same)
 
@@ -77,7 +77,7 @@ module _ (bytes rs : List ℕ) where
       goes_on g {r} {d'} {a'} {buffer'} {log'} h e s = record { same = leads a h ∙ g.same; wide = s.wide ∙ g.wide; long = s.long ∙ g.long }
         where
           leads : (c : Answer) → is_under_way c ≡ true → finished_of d' a' bytes rs buffer' log' ≡ finished_of d c bytes rs buffer log
-          leads (Given x) k = rw (s.state, s.answer, s.stored, s.logged, e) (on-from x k)
+          leads (Given x) k = rw (s.state, s.answer, s.stored, s.logged, e) (on_from x k)
           leads Busy k = no k
           leads ListMissing k = no k
 

@@ -19,7 +19,7 @@ use Rattle.qspi_operation.specs.Run.{run_of}
 use Rattle.qspi_operation.specs.Step.{is_going, step_of, log_of, buffer_of, due_of}
 use Rattle.qspi_operation.specs.Follows.{Begun, StepFollows, DueFollows, RunFollows, answer_of}
 use Rattle.qspi_operation.proofs.Verdicts.{Promised}
-use Rattle.qspi_operation.proofs.Following.{shows, on_step, on-run}
+use Rattle.qspi_operation.proofs.Following.{shows, on_step, on_run}
 use Rattle.qspi_calls.specs.Promise.{kept_of, given_of}
 use Rattle.power_cut.specs.Saving.{KeepsSaving}
 use Rattle.power_cut.proofs.Stepped.{saving_begins, step_saves, run_saves}
@@ -144,7 +144,7 @@ drives d op bytes buffer log rs {r} {buffer₁} {log₁} e = record {
     follows : is_going d.state.op.status ≡ false → erases_list op ≡ false → RunFollows op bytes buffer log rs (record { op = r.driver.state.op; answer = (run_of op bytes rs buffer log).answer }) buffer₁ log₁
     follows g k =
         let y = decided g k in
-        on-run op bytes buffer log rs (record { op = ap (λ (x : Drive). x.driver.state.op) y; answer = refl; stored = ap (λ (x : Drive). x.buffer) y; logged = ap (λ (x : Drive). x.log) y })
+        on_run op bytes buffer log rs (record { op = ap (λ (x : Drive). x.driver.state.op) y; answer = refl; stored = ap (λ (x : Drive). x.buffer) y; logged = ap (λ (x : Drive). x.log) y })
 
     keeps : is_going d.state.op.status ≡ false → erases_list op ≡ false → KeepsSaving op bytes buffer log r.driver.state.op log₁
     keeps g k = run_saves op bytes buffer log rs (follows g k)

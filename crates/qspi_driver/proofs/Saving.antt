@@ -9,7 +9,7 @@ use Rattle.qspi_operation.specs.declared.Stepped.{Stepped}
 use Rattle.qspi_operation.specs.Step.{is_going}
 use Rattle.qspi_operation.specs.Run as by-counters
 use Rattle.qspi_operation.specs.Run.{Run, run_of}
-use Rattle.qspi_operation.proofs.Following.{on-run}
+use Rattle.qspi_operation.proofs.Following.{on_run}
 use Rattle.qspi_calls.specs.Begins.{BeginsWith}
 use Rattle.qspi_calls.specs.Calls.{write_pages}
 use Rattle.qspi_calls.specs.Starts.{write_pages_of}
@@ -40,7 +40,7 @@ module _ (a : ℕ) (bytes rs log : List ℕ) (d : Driver) {o : Op} (started : (o
       let s : Stepped = record { op = r.driver.state.op; answer = run.answer } in
       let h : by-counters.Ran s buffer₁ log₁ run =
       record { op = ap (λ (x : Driver). x.state.op) (driver-is ∙ ap (λ (x : Drive). x.driver) at); answer = refl; stored = buffer-is ∙ ap (λ (x : Drive). x.buffer) at; logged = log_is ∙ ap (λ (x : Drive). x.log) at } in
-      let p = promised a bytes rs log started (h, on-run o bytes [] log rs h) refl refl in
+      let p = promised a bytes rs log started (h, on_run o bytes [] log rs h) refl refl in
       record { status = run.answer; given = answer-is ∙ ap (λ (x : Drive). x.answer) at; answer = p.answer; logged = p.logged; cut = saved a bytes rs log octets p }
 
   pub untouched : is_going d.state.op.status ≡ true → Untouched d log r log₁

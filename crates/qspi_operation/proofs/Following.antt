@@ -257,16 +257,16 @@ module _ (g : Lending) (rs : List ℕ) where
     log_is : log' ≡ logged_at g.room r p log
     log_is = ap (λ (n : ℕ). log_of o g.bytes n log (reply_of rs o.replies)) b ∙ ap (log_of o g.bytes (length g.buffer) log) at ∙ (shows g f).logged r log l
 
-    buffer-is : buffer ≡ overlaid (bytes_in p.state) g.buffer → buffer' ≡ overlaid (bytes_in (step_at g.room r p).state) g.buffer
-    buffer-is w =
+    buffer_is : buffer ≡ overlaid (bytes_in p.state) g.buffer → buffer' ≡ overlaid (bytes_in (step_at g.room r p).state) g.buffer
+    buffer_is w =
         ap (λ (n : ℕ). buffer_of o g.bytes buffer n (reply_of rs o.replies)) l ∙ ap (buffer_of o g.bytes buffer g.room) at
         ∙ ap (λ (z : List ℕ). buffer_of o g.bytes z g.room r) w ∙ (shows g f).stored r
 
-    one-step : is_going p.answer ≡ true → Ends (step_at g.room r p) buffer' log' (run_at (fuel next log') (is_going (step_at g.room r p).answer) (step_at g.room r p).answer next g.bytes rs buffer' log')
+    one_step : is_going p.answer ≡ true → Ends (step_at g.room r p) buffer' log' (run_at (fuel next log') (is_going (step_at g.room r p).answer) (step_at g.room r p).answer next g.bytes rs buffer' log')
         → Ends p buffer log (run_at (fuel o log) true p.answer o g.bytes rs buffer log)
-    one-step e i =
+    one_step e i =
         let y : rest_at g.room rs p ≡ before (access_at g.room r p) (rest_at g.room rs (step_at g.room r p)) = ap (λ (z : Bool). rest_if z g.room rs p) e ∙ step_rest g.room rs p (some g f e) e in
-        subst (Ends p buffer log) (sym (from_next p.answer)) (joins p r buffer log buffer' log' _ y log_is buffer-is i)
+        subst (Ends p buffer log) (sym (from_next p.answer)) (joins p r buffer log buffer' log' _ y log_is buffer_is i)
 
     wide : length buffer' ≡ length g.buffer
     wide = buffer_kept o g.bytes buffer (length log) (reply_of rs o.replies) ∙ b
@@ -288,7 +288,7 @@ module _ (g : Lending) (rs : List ℕ) where
   ends_then : (n : ℕ) → EndsIn n → EndsIn (suc n)
   ends_then n h p o buffer log false e f b l m = over_in p o buffer log e f
   ends_then n h p o buffer log true e f b l m =
-      one-step p o buffer log f b l e
+      one_step p o buffer log f b l e
       (h (step_at g.room (r p o buffer log f b l) p) (next p o buffer log f b l) (buffer' p o buffer log f b l) (log' p o buffer log f b l) (is_going (step_at g.room (r p o buffer log f b l) p).answer) refl (on g f (r p o buffer log f b l)) (wide p o buffer log f b l) (long p o buffer log f b l)
       (omega (arith, left_le (is_going (step_at g.room (r p o buffer log f b l) p).answer) (fuel (next p o buffer log f b l) (log' p o buffer log f b l)), nearer p o buffer log f b l, m)))
 
@@ -347,26 +347,26 @@ module _ (o : Op) (bytes buffer log rs : List ℕ) where
       ran : Ends g rs p buffer log (run_of o bytes rs buffer log)
       ran = rw d (subst (λ (a : Status). Ends g rs p buffer log (run_at (fuel o log) (is_going a) a o g.bytes rs buffer log)) (sym (shows g f).status) (ends_at g rs (fuel o log) p o buffer log (is_going p.answer) refl f b l (left_le (is_going p.answer) (fuel o log))))
 
-      is-rest : rest_at g.room rs p ≡ rest g.room rs p
-      is-rest = ap (λ (z : Bool). rest_if z g.room rs p) e
+      is_rest : rest_at g.room rs p ≡ rest g.room rs p
+      is_rest = ap (λ (z : Bool). rest_if z g.room rs p) e
 
       follows_on : Follows g (ran_at g.room rs p) s.op
-      follows_on = rw (h.op, ← is-rest) ran.follows
+      follows_on = rw (h.op, ← is_rest) ran.follows
 
       runs : Runs g p log rs s log₁
       runs =
-          let y : s.answer ≡ (ran_at g.room rs p).answer = h.answer ∙ ran.answer ∙ ap (λ (x : Result). x.answer) is-rest in
+          let y : s.answer ≡ (ran_at g.room rs p).answer = h.answer ∙ ran.answer ∙ ap (λ (x : Result). x.answer) is_rest in
           record {
             follows = follows_on;
             answer = ap (answer_with s.op) (y ∙ sym (shows g follows_on).status) ∙ (shows g follows_on).answer;
-            logged = h.logged ∙ ran.logged ∙ ap (λ (x : Result). sets log (2 * length p.made) (encode x.log)) is-rest;
+            logged = h.logged ∙ ran.logged ∙ ap (λ (x : Result). sets log (2 * length p.made) (encode x.log)) is_rest;
           }
 
       stored : buffer ≡ overlaid (bytes_in p.state) g.buffer → buffer₁ ≡ overlaid (bytes_in (ran_at g.room rs p).state) g.buffer
-      stored w = h.stored ∙ ran.stored w ∙ ap (λ (x : Result). overlaid (bytes_in x.state) g.buffer) is-rest
+      stored w = h.stored ∙ ran.stored w ∙ ap (λ (x : Result). overlaid (bytes_in x.state) g.buffer) is_rest
 
-    pub on-run : RunFollows o bytes buffer log rs s buffer₁ log₁
-    on-run g p f =
+    pub on_run : RunFollows o bytes buffer log rs s buffer₁ log₁
+    on_run g p f =
         let z : Shows g p o = f.always [] in
         record {
           repeats = λ e.
@@ -383,4 +383,4 @@ module _ (o : Op) (bytes buffer log rs : List ℕ) where
 
   -- what `run` promises
   pub with_run : {s : Stepped} {buffer₁ log₁ : List ℕ} → Ran s buffer₁ log₁ (run_of o bytes rs buffer log) → Ran s buffer₁ log₁ (run_of o bytes rs buffer log) × RunFollows o bytes buffer log rs s buffer₁ log₁
-  with_run h = (h, on-run h)
+  with_run h = (h, on_run h)

@@ -214,14 +214,14 @@ module _ (c : Script) (g : Lending) {o₀ : Op} (h : Begun g c o₀) (log₀ : L
         }
 
     -- state and memory the same
-    left-kept : {s : Stepped} {buffer' log' buffer₁ log₁ : List ℕ} → Leaves o buffer' log' s buffer₁ log₁ → Kept s.op buffer log
-    left-kept y = rw y.op k
+    left_kept : {s : Stepped} {buffer' log' buffer₁ log₁ : List ℕ} → Leaves o buffer' log' s buffer₁ log₁ → Kept s.op buffer log
+    left_kept y = rw y.op k
 
     same_kept : {s : Stepped} {buffer₁ log₁ : List ℕ} → Leaves o buffer log s buffer₁ log₁ → Kept s.op buffer₁ log₁
     same_kept y = rw (y.op, y.logged, y.stored) k
 
-    run-kept : (rs : List ℕ) {s : Stepped} {buffer₁ log₁ : List ℕ} → RunFollows o g.bytes buffer log rs s buffer₁ log₁ → Kept s.op buffer₁ log₁
-    run-kept rs {s} {buffer₁} {log₁} f = go (is_going p.answer) refl
+    run_kept : (rs : List ℕ) {s : Stepped} {buffer₁ log₁ : List ℕ} → RunFollows o g.bytes buffer log rs s buffer₁ log₁ → Kept s.op buffer₁ log₁
+    run_kept rs {s} {buffer₁} {log₁} f = go (is_going p.answer) refl
       where
         go : (b : Bool) → is_going p.answer ≡ b → Kept s.op buffer₁ log₁
         go false e = same_kept ((f g p k.follows).repeats e).0
@@ -236,21 +236,21 @@ module _ (c : Script) (g : Lending) {o₀ : Op} (h : Begun g c o₀) (log₀ : L
               stored = x.stored e refl as_long k.stored;
             }
 
-    beside-kept : (bytes buffer' log' : List ℕ) (r : Reply) {s : Stepped} {buffer₁ log₁ : List ℕ} → (is_going o.status ≡ true → same_as g (length bytes) (length buffer') (length log') ≡ false)
+    beside_kept : (bytes buffer' log' : List ℕ) (r : Reply) {s : Stepped} {buffer₁ log₁ : List ℕ} → (is_going o.status ≡ true → same_as g (length bytes) (length buffer') (length log') ≡ false)
         → StepFollows o bytes buffer' log' r s buffer₁ log₁ → Kept s.op buffer log
-    beside-kept bytes buffer' log' r {s} d f = go (is_going p.answer) refl
+    beside_kept bytes buffer' log' r {s} d f = go (is_going p.answer) refl
       where
         go : (b : Bool) → is_going p.answer ≡ b → Kept s.op buffer log
-        go false e = left-kept ((f g p k.follows).repeats e).0
-        go true e = left-kept ((f g p k.follows).changed e (d (ap is_going (shows g k.follows).status ∙ e))).0
+        go false e = left_kept ((f g p k.follows).repeats e).0
+        go true e = left_kept ((f g p k.follows).changed e (d (ap is_going (shows g k.follows).status ∙ e))).0
 
-    ran-beside-kept : (bytes buffer' log' rs : List ℕ) {s : Stepped} {buffer₁ log₁ : List ℕ} → (is_going o.status ≡ true → same_as g (length bytes) (length buffer') (length log') ≡ false)
+    ran_beside_kept : (bytes buffer' log' rs : List ℕ) {s : Stepped} {buffer₁ log₁ : List ℕ} → (is_going o.status ≡ true → same_as g (length bytes) (length buffer') (length log') ≡ false)
         → RunFollows o bytes buffer' log' rs s buffer₁ log₁ → Kept s.op buffer log
-    ran-beside-kept bytes buffer' log' rs {s} d f = go (is_going p.answer) refl
+    ran_beside_kept bytes buffer' log' rs {s} d f = go (is_going p.answer) refl
       where
         go : (b : Bool) → is_going p.answer ≡ b → Kept s.op buffer log
-        go false e = left-kept ((f g p k.follows).repeats e).0
-        go true e = left-kept ((f g p k.follows).changed e (d (ap is_going (shows g k.follows).status ∙ e))).0
+        go false e = left_kept ((f g p k.follows).repeats e).0
+        go true e = left_kept ((f g p k.follows).changed e (d (ap is_going (shows g k.follows).status ∙ e))).0
 
     -- what shows of it
     in_order : InOrder c g log₀ o buffer log
@@ -279,9 +279,9 @@ module _ (c : Script) (g : Lending) {o₀ : Op} (h : Begun g c o₀) (log₀ : L
   kept_along : {o : Op} {buffer log : List ℕ} → History g o₀ g.buffer log₀ o buffer log → Kept o buffer log
   kept_along begun = at_outset
   kept_along (stepped y r f) = step_kept (kept_along y) r f
-  kept_along (ran y rs f) = run-kept (kept_along y) rs f
-  kept_along (beside y bytes buffer' log' r d f) = beside-kept (kept_along y) bytes buffer' log' r d f
-  kept_along (ran_beside y bytes buffer' log' rs d f) = ran-beside-kept (kept_along y) bytes buffer' log' rs d f
+  kept_along (ran y rs f) = run_kept (kept_along y) rs f
+  kept_along (beside y bytes buffer' log' r d f) = beside_kept (kept_along y) bytes buffer' log' r d f
+  kept_along (ran_beside y bytes buffer' log' rs d f) = ran_beside_kept (kept_along y) bytes buffer' log' rs d f
   kept_along (queried y bytes f) = kept_along y
 
   -- THEOREM. Of every call that is begun, in any order of steps, runs and queries.

@@ -192,17 +192,17 @@ module _ (rs : List ℕ) where
     last_then [] taken h u v = elim h [ ]
     last_then (c ∷ l) taken h u v = one_before x (lasts first c l taken (closing_next h) u v)
 
-    last-by : (l : List Action) (taken : List ℕ) → Closes l → (g : Progress) → Makes (moves g a l taken none gives [] 0) head → after (moves g a l taken none gives [] 0) head ≡ ended Done rs [] 0 → EndsClosed (x ∷ head)
-    last-by l taken h (stays m') u v = one_before x (lasts m' a l taken (not_yet h) u v)
-    last-by l taken h over u v = last_then l taken h u v
-    last-by l taken h (takes r) u v = last_then l (r ∷ taken) h u v
+    last_by : (l : List Action) (taken : List ℕ) → Closes l → (g : Progress) → Makes (moves g a l taken none gives [] 0) head → after (moves g a l taken none gives [] 0) head ≡ ended Done rs [] 0 → EndsClosed (x ∷ head)
+    last_by l taken h (stays m') u v = one_before x (lasts m' a l taken (not_yet h) u v)
+    last_by l taken h over u v = last_then l taken h u v
+    last_by l taken h (takes r) u v = last_then l (r ∷ taken) h u v
 
   last : (head : List Access) → Last head
   last [] m a l taken h w f = absurd (some_due m a (ap want f))
   last (x ∷ head) m a l taken at_last w f =
       let z : head ≡ [] = over_makes head (ended Done (reverse taken) [] 0) refl w.1 in
       ([], ap (λ (y : Access). y ∷ head) (written w.0) ∙ ap (λ (y : List Access). access.Write 0x14 0 ∷ y) z)
-  last (x ∷ head) m a l taken (not_yet h) w f = last-by x head (last head) m a l taken h (progress m a (value_word x)) w.1 f
+  last (x ∷ head) m a l taken (not_yet h) w f = last_by x head (last head) m a l taken h (progress m a (value_word x)) w.1 f
 
 -- THEOREM. A whole transfer begins with a read of 04 and ends with the write of 0 to 14.
 pub whole_closes : (x : Transfer) (l : List Access) (rs : List ℕ) → Whole x l rs → (v : ℕ) × (middle : List Access) × (l ≡ access.Read 0x04 v ∷ (middle ++ access.Write 0x14 0 ∷ []))

@@ -192,12 +192,12 @@ module _ (d : Device) (v : ℕ) (sent array : List ℕ) (room : d.tx.bytes ≤ l
 
   module _ (idle₁ : d.chip.busy ≡ 0) (m : Array) (old : (x : ℕ) → m x ≡ byte_at array d.choices.base x) where
     -- a command without work: the latch is what it makes of it
-    no-work : (latch : Bool) → (asked_for d.chip bytes sent).there ≡ false → latched d.chip bytes sent ≡ record { latch = latch; busy = 0 }
+    no_work_lem : (latch : Bool) → (asked_for d.chip bytes sent).there ≡ false → latched d.chip bytes sent ≡ record { latch = latch; busy = 0 }
         → Outcome d v array (flash m latch none) (executed d v sent array)
-    no-work latch e f = rw (e, f) (obeyed {k = record { latch = latch; busy = 0 }} (resting refl old) (λ c t u w r. still))
+    no_work_lem latch e f = rw (e, f) (obeyed {k = record { latch = latch; busy = 0 }} (resting refl old) (λ c t u w r. still))
 
-    chip-is : (latch : Bool) → d.chip.latch ≡ latch → d.chip ≡ record { latch = latch; busy = 0 }
-    chip-is latch e = rw (sym e, sym idle₁)
+    chip_is : (latch : Bool) → d.chip.latch ≡ latch → d.chip ≡ record { latch = latch; busy = 0 }
+    chip_is latch e = rw (sym e, sym idle₁)
 
     no_target : (get_or sent 0 0 ≡ 0x02 → bytes ≤ 4) → (get_or sent 0 0 ≡ 0xD8 → bytes ≤ 3) → (asked_for d.chip bytes sent).there ≡ false
     no_target p q = go (eqb d.chip.busy 0) d.chip.latch (eqb (get_or sent 0 0) 0x02) (ltb 4 bytes) (eqb (get_or sent 0 0) 0xD8) (ltb 3 bytes) refl refl refl refl
@@ -218,8 +218,8 @@ module _ (d : Device) (v : ℕ) (sent array : List ℕ) (room : d.tx.bytes ≤ l
         go true true false t₄ true false e₂ e₄ e₈ e₃ = refl
         go true true false t₄ false u₃ e₂ e₄ e₈ e₃ = refl
 
-    same-latch : (get_or sent 0 0 ≡ 0x06 → bytes ≡ 0) → (get_or sent 0 0 ≡ 0x04 → bytes ≡ 0) → latched d.chip bytes sent ≡ d.chip
-    same-latch p q = go (eqb d.chip.busy 0) (ltb 0 bytes) (eqb (get_or sent 0 0) 0x06) (eqb (get_or sent 0 0) 0x04) refl refl refl
+    same_latch : (get_or sent 0 0 ≡ 0x06 → bytes ≡ 0) → (get_or sent 0 0 ≡ 0x04 → bytes ≡ 0) → latched d.chip bytes sent ≡ d.chip
+    same_latch p q = go (eqb d.chip.busy 0) (ltb 0 bytes) (eqb (get_or sent 0 0) 0x06) (eqb (get_or sent 0 0) 0x04) refl refl refl
       where
         go : (b n t u : Bool) → ltb 0 bytes ≡ n → eqb (get_or sent 0 0) 0x06 ≡ t → eqb (get_or sent 0 0) 0x04 ≡ u
             → cond b (cond n (cond t (record { latch = true; busy = 0 }) (cond u (record { latch = false; busy = 0 }) d.chip)) d.chip) d.chip ≡ d.chip
@@ -255,8 +255,8 @@ module _ (d : Device) (v : ℕ) (sent array : List ℕ) (room : d.tx.bytes ≤ l
         (target (programming (address_in sent)) e refl (model.programming (record { address = address_in sent; bytes = drop 4 bs }))
         (λ i. program_worked (address_in sent) d.choices.base bytes sent array (drop 4 bs) m i old (length-drop 4 bs ∙ ap (λ (z : ℕ). z - 4) count) data_at))
     programs h p false l =
-        no-work false (rw (eq-eqb d.chip.busy 0 idle₁, l))
-        (same-latch (λ x. absurd (omega (arith, h, x))) (λ x. absurd (omega (arith, h, x))) ∙ chip-is false l)
+        no_work_lem false (rw (eq-eqb d.chip.busy 0 idle₁, l))
+        (same_latch (λ x. absurd (omega (arith, h, x))) (λ x. absurd (omega (arith, h, x))) ∙ chip_is false l)
 
     -- sector erase
     erases : get_or sent 0 0 ≡ 0xD8 → 3 < bytes → (latch : Bool) → d.chip.latch ≡ latch
@@ -270,28 +270,28 @@ module _ (d : Device) (v : ℕ) (sent array : List ℕ) (room : d.tx.bytes ≤ l
         (target (erasing (address_in sent)) e refl (model.erasing (address_in sent / 65536 * 65536) 65536)
         (λ i. erase_worked (address_in sent) d.choices.base bytes sent array m i old))
     erases h p false l =
-        no-work false (rw (eq-eqb d.chip.busy 0 idle₁, l))
-        (same-latch (λ x. absurd (omega (arith, h, x))) (λ x. absurd (omega (arith, h, x))) ∙ chip-is false l)
+        no_work_lem false (rw (eq-eqb d.chip.busy 0 idle₁, l))
+        (same_latch (λ x. absurd (omega (arith, h, x))) (λ x. absurd (omega (arith, h, x))) ∙ chip_is false l)
 
     obeys : Asks bs → Outcome d v array (obey m d.chip.latch (command_of bs)) (executed d v sent array)
     unfolding obey
     obeys (to_enable h p e) =
         let f : get_or sent 0 0 ≡ 0x06 = sym (sent_at 0 (omega (arith, count))) ∙ h in
         rw e
-        (no-work true (no_target (λ x. absurd (omega (arith, f, x))) (λ x. absurd (omega (arith, f, x))))
+        (no_work_lem true (no_target (λ x. absurd (omega (arith, f, x))) (λ x. absurd (omega (arith, f, x))))
         (rw (eq-eqb d.chip.busy 0 idle₁, lt-ltb 0 bytes (omega (arith, count)), eq-eqb (get_or sent 0 0) 0x06 f)))
     obeys (to_disable h p e) =
         let f : get_or sent 0 0 ≡ 0x04 = sym (sent_at 0 (omega (arith, count))) ∙ h in
         let n : get_or sent 0 0 ≡ 0x06 → ⊥ = (λ x. omega (arith, f, x)) in
         rw e
-        (no-work false (no_target (λ x. absurd (omega (arith, f, x))) (λ x. absurd (omega (arith, f, x))))
+        (no_work_lem false (no_target (λ x. absurd (omega (arith, f, x))) (λ x. absurd (omega (arith, f, x))))
         (rw (eq-eqb d.chip.busy 0 idle₁, lt-ltb 0 bytes (omega (arith, count)), ne_eqb (get_or sent 0 0) 0x06 n, eq-eqb (get_or sent 0 0) 0x04 f)))
     obeys (to_program h p e) = rw e (programs (sym (sent_at 0 (omega (arith, count))) ∙ h) (omega (arith, count)) d.chip.latch refl)
     obeys (to_erase h p e) = rw e (erases (sym (sent_at 0 (omega (arith, count))) ∙ h) (omega (arith, count)) d.chip.latch refl)
     obeys (for_nothing i) =
         rw (i.nothing m d.chip.latch)
-        (no-work d.chip.latch (no_target (short 0x02 4 i.programs) (short 0xD8 3 i.erases))
-        (same-latch (empty 0x06 i.enables) (empty 0x04 i.disables) ∙ chip-is d.chip.latch refl))
+        (no_work_lem d.chip.latch (no_target (short 0x02 4 i.programs) (short 0xD8 3 i.erases))
+        (same_latch (empty 0x06 i.enables) (empty 0x04 i.disables) ∙ chip_is d.chip.latch refl))
       where
         short : (n k : ℕ) → (get_or bs 0 0 ≡ n → length bs ≤ k) → get_or sent 0 0 ≡ n → bytes ≤ k
         short n k f x = go (ltb 0 bytes) refl

@@ -192,14 +192,14 @@ module _ (bytes : List ℕ) (base : ℕ) (before : controller.Device) (replies :
         → verdict_of o bytes (length t.buffer) (length t.log) r ≡ answered d r
     decided r g h = rw (g, alike, le-leb (o.used + 2) (length t.log) room, h)
 
-    ended-idles : is_going o.status ≡ false → makes (verdict_of o bytes (length t.buffer) (length t.log) Nothing) ≡ false
-    ended-idles g = rw g
+    ended_idles : is_going o.status ≡ false → makes (verdict_of o bytes (length t.buffer) (length t.log) Nothing) ≡ false
+    ended_idles g = rw g
 
     abbrev met : Asked → Bool → Turn
     met a b = after_meeting (met_on a b (sim_in t)) o t.ran.answer bytes t.buffer t.log
 
-    read-turn : (x : ℕ) → is_going o.status ≡ true → access_of o.job o.place o.wire bytes ≡ due.Read x → (b : Bool) → Further bytes base before (suc (length l)) (met (asked.Read x) b)
-    read-turn x g h true =
+    read_turn : (x : ℕ) → is_going o.status ≡ true → access_of o.job o.place o.wire bytes ≡ due.Read x → (b : Bool) → Further bytes base before (suc (length l)) (met (asked.Read x) b)
+    read_turn x g h true =
         let v = (read_of (sim_in t) x).value in
         let y = on st.leads (reads (sim_in t) st.leads.after st.leads.standing x) in
         record {
@@ -208,10 +208,10 @@ module _ (bytes : List ℕ) (base : ℕ) (before : controller.Device) (replies :
           most = omega (arith, one_more l (access.Read x v));
           each = λ e. one_more l (access.Read x v);
         }
-    read-turn x g h false = idles Nothing (ap makes (decided Nothing g h))
+    read_turn x g h false = idles Nothing (ap makes (decided Nothing g h))
 
-    write-turn : (x v : ℕ) → is_going o.status ≡ true → access_of o.job o.place o.wire bytes ≡ due.Write x v → (b : Bool) → Further bytes base before (suc (length l)) (met (asked.Write x v) b)
-    write-turn x v g h b = go (writes (sim_in t) st.leads.after st.leads.standing x v)
+    write_turn : (x v : ℕ) → is_going o.status ≡ true → access_of o.job o.place o.wire bytes ≡ due.Write x v → (b : Bool) → Further bytes base before (suc (length l)) (met (asked.Write x v) b)
+    write_turn x v g h b = go (writes (sim_in t) st.leads.after st.leads.standing x v)
       where
         based₁ : (write_of (sim_in t) x v).written.device.choices.base ≡ base
         based₁ = ap (λ (c : Choices). c.base) (write_choices (sim_in t) x v) ∙ st.based
@@ -234,11 +234,11 @@ module _ (bytes : List ℕ) (base : ℕ) (before : controller.Device) (replies :
               each = λ e. absurd (true≢false (sym e));
             })
 
-    due-turn : (a : Asked) → Knows o bytes a → (b : Bool) → Further bytes base before (suc (length l)) (met a b)
-    due-turn a (reading {x} g h) b = read-turn x g h b
-    due-turn a (writing {x} {v} g h) b = write-turn x v g h b
-    due-turn a (ended g) b = idles Nothing (ended-idles g)
-    due-turn a (changed h) b = absurd (true≢false (sym (first_of (eqb (length bytes) o.job.lent.«data») _ alike) ∙ h))
+    due_turn : (a : Asked) → Knows o bytes a → (b : Bool) → Further bytes base before (suc (length l)) (met a b)
+    due_turn a (reading {x} g h) b = read_turn x g h b
+    due_turn a (writing {x} {v} g h) b = write_turn x v g h b
+    due_turn a (ended g) b = idles Nothing (ended_idles g)
+    due_turn a (changed h) b = absurd (true≢false (sym (first_of (eqb (length bytes) o.job.lent.«data») _ alike) ∙ h))
 
   turn_on : Further bytes base before (suc (length l)) (turn_of replies bytes t)
   turn_on = go (same_lengths o.job (length bytes) (length t.buffer) (length t.log)) (ltb (length t.log - o.used) 2) refl refl
@@ -249,7 +249,7 @@ module _ (bytes : List ℕ) (base : ℕ) (before : controller.Device) (replies :
       go true true h k = full k
       go true false h k =
           let p = ltb-false (length t.log - o.used) 2 k in
-          due-turn h (omega arith) (due_of o bytes) (knows o bytes) (ltb o.replies replies)
+          due_turn h (omega arith) (due_of o bytes) (knows o bytes) (ltb o.replies replies)
 
 -- ---- a run
 

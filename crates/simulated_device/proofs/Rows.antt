@@ -115,12 +115,12 @@ module _ (ch : Choices) (cut : ℕ) (sent received array : List ℕ) where
     at = through (start ch sent received array) ch.base cut cs (no_call ch cut sent received array) fresh at_start
 
     -- every row is an instance, wherever it is cut
-    pub row-instance : RowInstance ch.base cut array row
-    row-instance = record {
+    pub row_instance : RowInstance ch.base cut array row
+    row_instance = record {
       is = by_trace ch sent received array at.log (sim_of row.row.device row.sent row.received row.array) at.is_log at.leads at.based;
       counted = at.counted;
     }
 
     -- where a call has not ended, the power has failed
-    pub cut-there : (c : Call) → c.op.used ≡ 0 → row.row.over ≡ false → goes_on (turn_in row c).ran ≡ true → (and_then row c).row.left ≡ 0
-    cut-there c u o g = cut_here (start ch sent received array) ch.base cut row c u at o g
+    pub cut_there : (c : Call) → c.op.used ≡ 0 → row.row.over ≡ false → goes_on (turn_in row c).ran ≡ true → (and_then row c).row.left ≡ 0
+    cut_there c u o g = cut_here (start ch sent received array) ch.base cut row c u at o g

@@ -21,7 +21,7 @@ use Rattle.qspi_calls.proofs.Pages.{chunks_cons}
 use Rattle.qspi_calls.proofs.ProgramWords.{length_words}
 use Rattle.qspi_script.specs.Answer.{number_of}
 use Rattle.starred_cases.specs.Cases.{any, write_pages_call, accepted, gives, sends, gives_with, Case, case, starred, words_to, Ends, Meets, Holds, AllHold}
-use Rattle.starred_cases.proofs.Through.{sending, Through, stops, arrives, performs, repeating, counting, arrives-always}
+use Rattle.starred_cases.proofs.Through.{sending, Through, stops, arrives, performs, repeating, counting, arrives_always}
 
 -- ---- runs
 
@@ -63,7 +63,7 @@ work_ends bit failure x rs h clean e =
     let t = works_through (λ a n. a ≡ Done) bit failure x (ends Done []) 0 [] h (arrives refl) in
     let p = works bit failure x (ends Done []) 0 prompt prompt prompt 0 0 rs e clean refl in
     ends_by_log c (Worked x) _ Done (counting_logs c _ Done [] [] 0 p) (omega arith)
-    (λ room qs i. let y = arrives-always 0x1C (λ a n. a ≡ Done) refl c _ t room qs i in (y.1, y.0, some_access room _ _ qs i))
+    (λ room qs i. let y = arrives_always 0x1C (λ a n. a ≡ Done) refl c _ t room qs i in (y.1, y.0, some_access room _ _ qs i))
 
 work_accepted : (x : Transfer) (c : Script) → Ends c (Worked x) → Meets accepted c
 work_accepted x c w = record { always = λ room rs i. let y = w.always room rs i in (y.0, y.2); room = w.room; replies = w.replies; possible = w.possible }
@@ -137,7 +137,7 @@ module _ (a : ℕ) (bs : List ℕ) (s : Status) (range : a + length bs ≤ 16777
       let t = works_through Refused 6 ProgrammingErrorBitSet (programming a one) (counts (length one) (refused s)) 0 [] (omega arith) (counting (arrives (refl, n))) in
       let p = works 6 ProgrammingErrorBitSet (programming a one) (counts (length one) (refused s)) 0 prompt prompt prompt 0 0 (replies_to one) (replies_of_lem one e) refl refl in
       subst (Meets (gives_with (number_of s) 128)) (sym is_first_only)
-      (ends_by_log first_only _ _ s (counting_logs first_only _ s [] [] (0 + length one) p) given (λ room qs i. (arrives-always 0x1C Refused refl first_only _ t room qs i).1))
+      (ends_by_log first_only _ _ s (counting_logs first_only _ s [] [] (0 + length one) p) given (λ room qs i. (arrives_always 0x1C Refused refl first_only _ t room qs i).1))
 
 -- ---- the cases, each at its place in the list
 
@@ -183,7 +183,7 @@ read_000102 : HoldsAt starred 9
 read_000102 =
     let t : Through 0x1C (λ a n. a ≡ Done) (read false false 0x000102 1) 0 (0x02010003 ∷ 0 ∷ []) = performs (λ rs. arrives refl) in
     ends_by_log _ _ _ Done (read_logs false false 0x000102 1 _ refl (read_chunk prompt (0 ∷ 0 ∷ []) refl read_none)) (omega arith)
-    (λ room qs i. let y = arrives-always 0x1C (λ a n. a ≡ Done) refl _ _ t room qs i in (y.1, y.0))
+    (λ room qs i. let y = arrives_always 0x1C (λ a n. a ≡ Done) refl _ _ t room qs i in (y.1, y.0))
 
 interface_5000000 : HoldsAt starred 10
 interface_5000000 = λ c h. (rw h.io, rw (h.io, h.cpu))
@@ -194,7 +194,7 @@ loopback_7936508 = λ c h. rw h.io
 io_mode_one_flash : HoldsAt starred 12
 io_mode_one_flash =
     let t : Through 0xA0 (λ a n. a ≡ Done) (enable_io_mode false) 0 (0x01A002EB ∷ []) = performs (λ rs. arrives refl) in
-    ends_by_log _ _ _ Done (io_mode_logs false 0) (omega arith) (λ room qs i. let y = arrives-always 0xA0 (λ a n. a ≡ Done) refl _ _ t room qs i in (y.1, y.0))
+    ends_by_log _ _ _ Done (io_mode_logs false 0) (omega arith) (λ room qs i. let y = arrives_always 0xA0 (λ a n. a ≡ Done) refl _ _ t room qs i in (y.1, y.0))
 
 -- a case, and those after it
 infixr 4 ◌and◌

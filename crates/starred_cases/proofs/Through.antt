@@ -81,45 +81,45 @@ module _ (at : ℕ) (Good : Status → ℕ → Type 0) where
       polled true false = at_ready t
       polled false twice = at_first t
 
-      polled-again : (b twice : Bool) → Stands (moves (cond b (stays ready) (stays first)) (reply twice) l taken brings k bs n) (sending at l ws)
-      polled-again true twice = at_ready t
-      polled-again false twice = at_first t
+      polled_again_lem : (b twice : Bool) → Stands (moves (cond b (stays ready) (stays first)) (reply twice) l taken brings k bs n) (sending at l ws)
+      polled_again_lem true twice = at_ready t
+      polled_again_lem false twice = at_first t
 
-      first-steps : (a : Action) → Steps (going first a l taken brings k bs n) (want_at first a) (sending at (a ∷ l) ws)
-      first-steps (write o v) = (sending at l ws, proceeds l taken brings k bs n ws t, refl)
-      first-steps (modify f) = λ v. at_changed t
-      first-steps drain = λ v. drained (waits v)
-      first-steps (reply twice) = λ v. polled (waits v) twice
+      first_steps : (a : Action) → Steps (going first a l taken brings k bs n) (want_at first a) (sending at (a ∷ l) ws)
+      first_steps (write o v) = (sending at l ws, proceeds l taken brings k bs n ws t, refl)
+      first_steps (modify f) = λ v. at_changed t
+      first_steps drain = λ v. drained (waits v)
+      first_steps (reply twice) = λ v. polled (waits v) twice
 
     steps : {s : State} {ws : List ℕ} → Stands s ws → Steps s (want s) ws
     steps (stopped h) = λ i. absurd (omega arith)
     steps (arrived g) = λ i. (refl, g)
-    steps (at_first {a} {l} {taken} {bs} {ws} {brings} {k} {n} t) = first-steps l taken brings k bs n ws t a
+    steps (at_first {a} {l} {taken} {bs} {ws} {brings} {k} {n} t) = first_steps l taken brings k bs n ws t a
     steps (at_full t) = λ v. at_first t
     steps (at_changed {v} {a} {l} {taken} {bs} {ws} {brings} {k} {n} t) = (sending at l ws, proceeds l taken brings k bs n ws t, rw config)
-    steps (at_again {twice} {l} {taken} {bs} {ws} {brings} {k} {n} t) = λ v. polled-again l taken brings k bs n ws t (waits v) twice
+    steps (at_again {twice} {l} {taken} {bs} {ws} {brings} {k} {n} t) = λ v. polled_again_lem l taken brings k bs n ws t (waits v) twice
     steps (at_ready {a} {l} {taken} {bs} {ws} {brings} {k} {n} t) = λ v. proceeds l (v ∷ taken) brings k bs n ws t
 
     -- unless the state ends the run, it has sent all the words and ends well
     abbrev Arrives : Result → List ℕ → Type 0
     Arrives r ws = number_of r.answer < 21 → (words_to at r.log ≡ ws) × Good r.answer (count_in r.state)
 
-    no-room-arrives : (w : Want) (s : State) (ws rs : List ℕ) → Steps s w ws → Arrives (no_room w s rs) ws
-    no-room-arrives nothing s ws rs y = y
-    no-room-arrives (reads o) s ws rs y = λ i. absurd (omega arith)
-    no-room-arrives (writes o v) s ws rs y = λ i. absurd (omega arith)
+    no_room_arrives : (w : Want) (s : State) (ws rs : List ℕ) → Steps s w ws → Arrives (no_room w s rs) ws
+    no_room_arrives nothing s ws rs y = y
+    no_room_arrives (reads o) s ws rs y = λ i. absurd (omega arith)
+    no_room_arrives (writes o v) s ws rs y = λ i. absurd (omega arith)
 
-    made-arrives : (w : Want) (s : State) (ws : List ℕ) (room : ℕ) (rs : List ℕ) (run : State → List ℕ → Result) → Steps s w ws
+    made_arrives : (w : Want) (s : State) (ws : List ℕ) (room : ℕ) (rs : List ℕ) (run : State → List ℕ → Result) → Steps s w ws
         → ((s : State) (us rs : List ℕ) → Stands s us → Arrives (run s rs) us) → Arrives (made w s room rs run) ws
-    made-arrives nothing s ws room rs run y h = y
-    made-arrives (reads o) s ws room [] run y h = λ i. absurd (omega arith)
-    made-arrives (reads o) s ws room (v ∷ rs) run y h = h (next s v) ws rs (y v)
-    made-arrives (writes o v) s ws room rs run y h = λ i. let g = h (next s v) y.0 rs y.1 i in (ap (λ (z : List ℕ). cond (eqb o at) (v ∷ z) z) g.0 ∙ y.2, g.1)
+    made_arrives nothing s ws room rs run y h = y
+    made_arrives (reads o) s ws room [] run y h = λ i. absurd (omega arith)
+    made_arrives (reads o) s ws room (v ∷ rs) run y h = h (next s v) ws rs (y v)
+    made_arrives (writes o v) s ws room rs run y h = λ i. let g = h (next s v) y.0 rs y.1 i in (ap (λ (z : List ℕ). cond (eqb o at) (v ∷ z) z) g.0 ∙ y.2, g.1)
 
-    runs-arrive : (room : ℕ) (s : State) (ws rs : List ℕ) → Stands s ws → Arrives (runs room s rs) ws
+    runs_arrive : (room : ℕ) (s : State) (ws rs : List ℕ) → Stands s ws → Arrives (runs room s rs) ws
     unfolding runs
-    runs-arrive zero s ws rs h = no-room-arrives (want s) s ws rs (steps h)
-    runs-arrive (suc room) s ws rs h = made-arrives (want s) s ws room rs (runs room) (steps h) (runs-arrive room)
+    runs_arrive zero s ws rs h = no_room_arrives (want s) s ws rs (steps h)
+    runs_arrive (suc room) s ws rs h = made_arrives (want s) s ws room rs (runs room) (steps h) (runs_arrive room)
 
-    pub arrives-always : (c : Script) (ws : List ℕ) → Through c 0 ws → (room : ℕ) (rs : List ℕ) → Arrives (called c room rs) ws
-    arrives-always c ws t room rs = runs-arrive room (begin c [] 0) ws rs (begins [] t)
+    pub arrives_always : (c : Script) (ws : List ℕ) → Through c 0 ws → (room : ℕ) (rs : List ℕ) → Arrives (called c room rs) ws
+    arrives_always c ws t room rs = runs_arrive room (begin c [] 0) ws rs (begins [] t)

@@ -1,4 +1,4 @@
--- The premises of `on-target` and of `thirty-one-when` can be met, with every reference clock and every interface target. Assumes nothing.
+-- The premises of `on_target` and of `thirty_one_when` can be met, with every reference clock and every interface target. Assumes nothing.
 use Prim.Native.Nat.{ℕ, ◌+◌, ◌*◌, ◌/◌, ◌<◌, ◌≤◌}
 use mathlib.Core.Path.{◌≡◌, refl, sym, ap, ◌∙◌}
 use mathlib.Core.List.{[], ◌∷◌}
@@ -44,7 +44,7 @@ last_accepted = refl
 pub first_refused_lem : calculate_answer IoPll (only_io 257) 257 1 ≡ refused BaudDivOutOfRange
 first_refused_lem = refl
 
--- "as rounded down": 5 over both divisors is above 1, by less than half a hertz (`before-rounding`)
+-- "as rounded down": 5 over both divisors is above 1, by less than half a hertz (`before_rounding`)
 pub rounded_down : calculate_answer IoPll (only_io 5) 3 1 ≡ accepted (0 ∷ 2 ∷ 0 ∷ 2 ∷ [])
 rounded_down = refl
 

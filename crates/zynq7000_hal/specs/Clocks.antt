@@ -75,8 +75,8 @@ smallest_not_below q (p ∷ ps) = cond (leb q p) p (smallest_not_below q ps)
 abbrev pub smallest_power_not_below : ℕ → ℕ
 smallest_power_not_below q = smallest_not_below q powers
 
--- the same words without a search: up to 256 `smallest_power_not_below` is it (`smallest-power` in proofs/LadderLaws.antt), and nothing else is
--- (`only-smallest`)
+-- the same words without a search: up to 256 `smallest_power_not_below` is it (`smallest_power` in proofs/LadderLaws.antt), and nothing else is
+-- (`only_smallest`)
 pub record PowerFrom2To256 (p : ℕ) : Type 0 where
   pub exponent : ℕ
   pub power : p ≡ 2 ^ exponent

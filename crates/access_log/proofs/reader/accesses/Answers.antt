@@ -4,7 +4,7 @@ use Rattle.access_log.specs.declared.reader.Found.{Found}
 use Rattle.access_log.specs.declared.reader.LogReader.{LogReader}
 use Rattle.access_log.specs.Log.{is_access, entry_at}
 use Rattle.access_log.specs.Reader.{found_at, first_other, accesses_in}
-use Rattle.access_log.proofs.Counting.{State, tested, below, left-on, ends}
+use Rattle.access_log.proofs.Counting.{State, tested, below, left_on, ends}
 use Rattle.access_log.proofs.Finding.{next_on}
 use Rattle.access_log.proofs.reader.accesses.Goals as goal
 
@@ -47,7 +47,7 @@ loop-reader-preserved c =
           ap (λ (r : LogReader). r.at) c.next.ensures.moved
           ∙ next_there log _ _ l.count l.invariant.log l.invariant.at e;
       within = omega (arith, inside);
-      left = ap (λ (i : ℕ). first_other i (entry_at log) (l.count + 1)) k ∙ left-on log t e;
+      left = ap (λ (i : ℕ). first_other i (entry_at log) (l.count + 1)) k ∙ left_on log t e;
     }
 
 -- src/reader.rt:67:1

@@ -1,0 +1,40 @@
+use Rattle.std.proofs.Common.{rules, ◌≡◌, ◌-◌, ℕ, ◌+◌, ◌*◌, ◌<◌, ◌≤◌, length, ◌/◌, ◌%◌, Bool, true, false, nat_eq, nat_lt, List, [], ◌∷◌, ◌++◌, slice_index_or, slice_set, bit_and, bit_or, Fits, w8, w32, w64, Bor, MutBor, sym, ◌∙◌, arith}
+use Rattle.log_observer.specs.Watching.{no_doubt, not_open, just_open, fresh, head_with, push, send_one, send_two, send_three, send_four, take_reply, is_program, is_status_read, is_clean, address_in, joined, commanded, raised, with_transfer, finish, closed, enabled, configured, wrote, has_read, watched, watch_of}
+use Rattle.log_observer.proofs.Following.{Following, starts, goes_on, stops_at_end, stops_at_bad, stops_at_most}
+use Rattle.log_observer.proofs.observe.Goals as goal
+
+-- src/lib.rt:391:5
+pub loop-at-init : goal.loop-at-init
+loop-at-init c = rw c.start-watch.ensures.watch (starts c.args.log.now c.args.accesses)
+
+-- src/lib.rt:391:5
+pub loop-at-preserved : goal.loop-at-preserved
+loop-at-preserved c =
+    let a = c.args in
+    let l = c.loop-at in
+    let found = sym c.entry_at.ensures.entry ∙ c.in-Access.is in
+    rw c.see-watch.ensures.watch
+    (goes_on a.log.now a.accesses l.watch l.at l.invariant c.loop-at-test.true _ found)
+
+-- src/lib.rt:397:27
+pub returns-in-End : goal.returns-in-End
+returns-in-End c =
+    let a = c.args in
+    let l = c.loop-at in
+    let found = sym c.entry_at.ensures.entry ∙ c.in-End.is in
+    record { watch = stops_at_end a.log.now a.accesses l.watch l.at l.invariant c.loop-at-test.true found }
+
+-- src/lib.rt:398:33
+pub returns-in-BadLog : goal.returns-in-BadLog
+returns-in-BadLog c =
+    let a = c.args in
+    let l = c.loop-at in
+    let found = sym c.entry_at.ensures.entry ∙ c.in-BadLog.is in
+    record { watch = stops_at_bad a.log.now a.accesses l.watch l.at l.invariant c.loop-at-test.true _ found }
+
+-- src/lib.rt:386:1
+pub returns : goal.returns
+returns c =
+    let a = c.args in
+    let l = c.loop-at in
+    record { watch = stops_at_most a.log.now a.accesses l.watch l.at l.invariant c.loop-at-test.false }
