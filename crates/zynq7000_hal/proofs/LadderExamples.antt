@@ -1,12 +1,12 @@
 -- The premises of `on_target` and of `thirty_one_when` can be met, with every reference clock and every interface target. Assumes nothing.
-use Prim.Native.Nat.{ℕ, ◌+◌, ◌*◌, ◌/◌, ◌<◌, ◌≤◌}
-use mathlib.Core.Path.{◌≡◌, refl, sym, ap, ◌∙◌}
+use Prim.Native.Nat.{ℕ, ◌*◌, ◌/◌, ◌<◌, ◌≤◌}
+use mathlib.Core.Path.{◌≡◌, refl, ap, ◌∙◌}
 use mathlib.Core.List.{[], ◌∷◌}
 use native.Mathlib.Omega.{arith}
 use native.Mathlib.Nat.{mod_self, div_self, div-one}
 use Rattle.zynq7000.specs.Number.{accepted, refused, BaudDivOutOfRange}
 use Rattle.zynq7000.specs.declared.slcr.clocks.SrcSelIo.TheVariants.{IoPll}
-use Rattle.zynq7000_hal.specs.Clocks.{rounded_up, divided_clock, quotient, smallest_power_not_below, OnTarget, calculate_answer}
+use Rattle.zynq7000_hal.specs.Clocks.{rounded_up, divided_clock, quotient, smallest_power_not_below, calculate_answer}
 use Rattle.zynq7000_hal.specs.declared.clocks.Clocks.{Clocks}
 use Rattle.zynq7000_hal.proofs.ClockLaws.{round_exact, quotient_too_large, calculated}
 

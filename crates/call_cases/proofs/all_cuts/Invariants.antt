@@ -1,4 +1,4 @@
-use Rattle.std.proofs.Common.{◌-◌, ◌≡◌, ℕ, ◌+◌, ◌*◌, ◌<◌, ◌≤◌, length, arith}
+use Rattle.std.proofs.Common.{◌-◌}
 use Rattle.call_cases.proofs.all_cuts.Given as goal
 
 abbrev pub invariant-loop-kind : goal.invariant-loop-kind

@@ -1,4 +1,4 @@
-use Rattle.std.proofs.Common.{◌-◌, ◌≡◌, ℕ, ◌+◌, ◌*◌, ◌<◌, ◌≤◌, length, arith}
+use Rattle.std.proofs.Common.{◌-◌}
 use Rattle.call_cases.proofs.cuts.Given as goal
 
 abbrev pub invariant-loop-k : goal.invariant-loop-k

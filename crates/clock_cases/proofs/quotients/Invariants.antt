@@ -1,5 +1,4 @@
-use Rattle.std.proofs.Common.{◌-◌, ◌≡◌, ℕ, ◌+◌, ◌*◌, ◌<◌, ◌≤◌, length}
-use native.Mathlib.Omega.{arith}
+use Rattle.std.proofs.Common.{◌-◌}
 use Rattle.clock_cases.proofs.quotients.Given as goal
 
 abbrev pub invariant-loop-below : goal.invariant-loop-below

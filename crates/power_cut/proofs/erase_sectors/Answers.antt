@@ -1,23 +1,6 @@
-use Rattle.std.proofs.Common.{rules, ◌≡◌, ◌/◌, min, length, ℕ, ◌+◌, ◌-◌, ◌*◌, ◌<◌, ◌≤◌, ◌%◌, Bool, true, false, nat_eq, nat_lt, List, [], ◌∷◌, ◌++◌, slice_index_or, slice_set, bit_and, bit_or, Fits, w8, w32, w64, Bor, MutBor}
-use Rattle.zedboard_bsp.specs.Limits.{longest_list}
-use Rattle.qspi_script.specs.Answer.{values_in}
-use Rattle.qspi_operation.specs.Machine.{called}
-use Rattle.qspi_operation.specs.Points.{answered_of}
-use Rattle.qspi_calls.specs.OneByOne.{Accepted, SingleErases}
-use Rattle.qspi_calls.specs.Promise.{logged_of, one_of}
-use Rattle.power_cut.specs.Promise.{Saved, answer_of}
-use Rattle.power_cut.specs.SectorPromise.{Cleared, sectors_answer}
-use Rattle.qspi_calls.specs.Calls as call
+use Rattle.std.proofs.Common.{◌-◌}
 use Rattle.power_cut.proofs.erase_sectors.Goals as goal
 use Rattle.power_cut.proofs.SectorPromised as promise
-use Rattle.power_cut.proofs.erase_sectors.Reads as reads
-use Rattle.power_cut.proofs.lent.Reads as Lent-reads
-use Rattle.qspi_calls.proofs.run.finish.Reads as finish-reads
-use Rattle.qspi_calls.proofs.run.value.Reads as value-reads
-use Rattle.qspi_calls.proofs.sectors.numbered.Reads as numbered-reads
-use Rattle.qspi_calls.proofs.start.erase_sectors.Reads as erase-sectors-reads
-use Rattle.qspi_operation.proofs.counted.Reads as counted-reads
-use Rattle.qspi_operation.proofs.run.Reads as run-reads
 
 -- src/lib.rt:62:1
 pub returns-clause-answer : goal.returns-clause-answer

@@ -1,11 +1,5 @@
-use Rattle.std.proofs.Common.{rules, ◌≡◌, true, false, length, ℕ, ◌+◌, ◌-◌, ◌*◌, ◌<◌, ◌≤◌, ◌/◌, ◌%◌, Bool, nat_eq, nat_lt, List, [], ◌∷◌, ◌++◌, slice_index_or, slice_set, bit_and, bit_or, Fits, w8, w32, w64, Bor, MutBor}
-use Rattle.qspi_operation.specs.Step.{is_going, due_of, log_of, buffer_of}
-use Rattle.qspi_operation.specs.Follows.{DueFollows}
-use Rattle.qspi_driver.specs.State.{begun_of, begun_list_of, lent_to, stepped_of, progress_of}
-use Rattle.qspi_driver.specs.Promise.{Started, Steps, AnswerFollows, Drives}
-use Rattle.qspi_driver.specs.Driver.{idle, driver_of, finished_of, driven_of, list_driven_of, Drive}
-use Rattle.qspi_driver.specs.Saved.{Saves, Untouched}
-use Rattle.qspi_driver.specs.Cleared.{ListStarted, Clears}
+use Rattle.std.proofs.Common.{◌-◌}
+use Rattle.qspi_driver.specs.Driver.{Drive}
 use mathlib.Core.Path.{ap, ◌∙◌}
 use Rattle.qspi_driver.proofs.Driving.{driven_of_lem}
 use Rattle.qspi_driver.proofs.Promised.{drives}

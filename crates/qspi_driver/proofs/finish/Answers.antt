@@ -1,19 +1,9 @@
-use Rattle.std.proofs.Common.{rules, ◌≡◌, true, false, length, ℕ, ◌+◌, ◌-◌, ◌*◌, ◌<◌, ◌≤◌, ◌/◌, ◌%◌, Bool, nat_eq, nat_lt, List, [], ◌∷◌, ◌++◌, slice_index_or, slice_set, bit_and, bit_or, Fits, w8, w32, w64, Bor, MutBor}
-use Rattle.qspi_operation.specs.Step.{is_going, due_of, log_of, buffer_of}
-use Rattle.qspi_operation.specs.Follows.{DueFollows}
-use Rattle.qspi_driver.specs.State.{begun_of, begun_list_of, lent_to, stepped_of, progress_of}
-use Rattle.qspi_driver.specs.Promise.{Started, Steps, AnswerFollows, Drives}
-use Rattle.qspi_driver.specs.Driver.{idle, driver_of, finished_of, driven_of, list_driven_of, Drive}
-use Rattle.qspi_driver.specs.Saved.{Saves, Untouched}
-use Rattle.qspi_driver.specs.Cleared.{ListStarted, Clears}
-use mathlib.Core.Path.{refl, sym, ap, ◌∙◌}
+use Rattle.std.proofs.Common.{true, false, ◌-◌}
+use Rattle.qspi_driver.specs.Driver.{driver_of, Drive}
+use mathlib.Core.Path.{sym, ap, ◌∙◌}
 use Rattle.qspi_driver.specs.declared.state.Acted.{Acted}
-use Rattle.qspi_driver.proofs.Driving.{Stepped, Good, steps, begins, goes_on, nearer, ends}
+use Rattle.qspi_driver.proofs.Driving.{Stepped, goes_on, nearer, ends}
 use Rattle.qspi_driver.proofs.finish.Goals as goal
-use Rattle.qspi_driver.proofs.finish.Reads as reads
-use Rattle.qspi_driver.proofs.state.is_under_way.Reads as is-under-way-reads
-use Rattle.qspi_driver.proofs.state.next_reply.Reads as next-reply-reads
-use Rattle.qspi_driver.proofs.state.step.Reads as step-reads
 
 -- src/lib.rt:127:5
 pub loop-answer-smaller : goal.loop-answer-smaller

@@ -1,7 +1,5 @@
-use Rattle.std.proofs.Common.{length, ◌-◌, ◌<◌, ◌≤◌, ◌≡◌, ℕ, ◌+◌, ◌*◌, arith}
+use Rattle.std.proofs.Common.{length, ◌-◌}
 use Rattle.sim_report.proofs.is_unchanged.Given as goal
-use Rattle.sim_report.proofs.is_unchanged.Reads as reads
-use Rattle.sim_report.proofs.byte_at.Reads as byte-at-reads
 
 abbrev pub invariant-loop-i : goal.invariant-loop-i
 invariant-loop-i l = Unit {0}

@@ -1,4 +1,4 @@
-use Rattle.std.proofs.Common.{◌<◌, ◌≤◌, ◌≡◌, ℕ, ◌+◌, ◌-◌, ◌*◌, length, ◌/◌, arith}
+use Rattle.std.proofs.Common.{◌-◌, length, ◌/◌}
 use Rattle.sim_report.proofs.pages.Given as goal
 
 abbrev pub invariant-loop-n : goal.invariant-loop-n

@@ -1,8 +1,7 @@
-use Rattle.std.proofs.Common.{rules, ◌≡◌, ◌<◌, ℕ, ◌+◌, ◌-◌, ◌*◌, ◌≤◌, length, ◌/◌, ◌%◌, Bool, true, false, nat_eq, nat_lt, List, [], ◌∷◌, ◌++◌, slice_index_or, slice_set, bit_and, bit_or, Fits, w8, w32, w64, Bor, MutBor}
-use Rattle.power_cut.specs.Controller.{high}
-use Rattle.simulated_device.specs.Simulated.{no_words, nothing_received, at_rest, with_tx, with_rx, with_config, sim_of, passed, after_take, taken_from, interrupt_status, answered, read_of, accepted, refusal, configured, write_of, Sim}
-use mathlib.Core.Path.{refl, sym, ◌∙◌}
-use Rattle.simulated_device.proofs.Steps.{writes_config, writes_other, writes_word, as_after}
+use Rattle.std.proofs.Common.{◌-◌, true, false}
+use Rattle.simulated_device.specs.Simulated.{sim_of}
+use mathlib.Core.Path.{refl, ◌∙◌}
+use Rattle.simulated_device.proofs.Steps.{writes_config, writes_word, as_after}
 use Rattle.simulated_device.proofs.write.Goals as goal
 
 -- src/lib.rt:301:9

@@ -1,4 +1,4 @@
-use Rattle.std.proofs.Common.{◌-◌, ◌≡◌, ℕ, ◌+◌, ◌*◌, ◌<◌, ◌≤◌, length, arith}
+use Rattle.std.proofs.Common.{◌-◌}
 use Rattle.step_orders.proofs.main.Given as goal
 
 abbrev pub invariant-loop-call : goal.invariant-loop-call

@@ -1,4 +1,4 @@
-use Rattle.std.proofs.Common.{◌-◌, ◌≡◌, ℕ, ◌+◌, ◌*◌, ◌<◌, ◌≤◌, length, arith}
+use Rattle.std.proofs.Common.{◌-◌}
 use Rattle.step_orders.proofs.orders.Given as goal
 
 abbrev pub invariant-loop-number : goal.invariant-loop-number

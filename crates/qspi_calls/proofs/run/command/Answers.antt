@@ -1,9 +1,5 @@
-use Rattle.std.proofs.Common.{rules, ◌≡◌, ℕ, ◌+◌, ◌-◌, ◌*◌, ◌<◌, ◌≤◌, length, ◌/◌, ◌%◌, Bool, true, false, nat_eq, nat_lt, List, [], ◌∷◌, ◌++◌, slice_index_or, slice_set, bit_and, bit_or, Fits, w8, w32, w64, Bor, MutBor}
-use Rattle.qspi_script.specs.Answer.{values_in}
-use Rattle.qspi_operation.specs.Follows.{RunFollows, answer_by}
-use Rattle.qspi_calls.specs.Promise.{nothing, handed, kept_of, given_of, one_of}
+use Rattle.std.proofs.Common.{◌-◌}
 use Rattle.qspi_calls.proofs.Promised.{commanded}
-use Rattle.qspi_calls.specs.Values as values
 use Rattle.qspi_calls.proofs.run.command.Goals as goal
 
 -- src/run.rt:98:1

@@ -1,13 +1,11 @@
-use Rattle.std.proofs.Common.{rules, ◌≡◌, [], ◌≤◌, length, take, ℕ, ◌+◌, ◌-◌, ◌*◌, ◌<◌, ◌/◌, ◌%◌, Bool, true, false, nat_eq, nat_lt, List, ◌∷◌, ◌++◌, slice_index_or, slice_set, bit_and, bit_or, Fits, w8, w32, w64, Bor, MutBor}
-use Rattle.zedboard_bsp.specs.Limits.{longest_list}
-use Rattle.qspi_calls.specs.Sectors.{sector_status, first_refused, among, first_repeat, numbers_in}
+use Rattle.std.proofs.Common.{◌≡◌, ◌+◌, ◌-◌, true, false}
+use Rattle.qspi_calls.specs.Sectors.{among}
 use Prim.Native.Nat.{suc}
-use mathlib.Core.Path.{refl, ap, sym, ◌∙◌}
+use mathlib.Core.Path.{sym}
 use native.Mathlib.Omega.{arith}
 use borrow.Author.Tests.{ne_eqb}
 use Rattle.qspi_calls.proofs.ListLoops.{not_yet, found}
 use Rattle.qspi_calls.proofs.sectors.is_among.Goals as goal
-use Rattle.qspi_calls.proofs.sectors.is_among.Reads as reads
 
 -- src/sectors.rt:47:13
 pub returns-then-list-at : goal.returns-then-list-at

@@ -1,13 +1,9 @@
-use Rattle.std.proofs.Common.{rules, ◌≡◌, [], ◌≤◌, length, take, ℕ, ◌+◌, ◌-◌, ◌*◌, ◌<◌, ◌/◌, ◌%◌, Bool, true, false, nat_eq, nat_lt, List, ◌∷◌, ◌++◌, slice_index_or, slice_set, bit_and, bit_or, Fits, w8, w32, w64, Bor, MutBor}
-use Rattle.zedboard_bsp.specs.Limits.{longest_list}
-use Rattle.qspi_calls.specs.Sectors.{sector_status, first_refused, among, first_repeat, numbers_in}
-use mathlib.Core.Path.{refl, ap, sym, subst, ◌∙◌}
+use Rattle.std.proofs.Common.{ℕ, ◌+◌, ◌-◌, true, false}
+use mathlib.Core.Path.{sym, subst}
 use native.Mathlib.Omega.{arith}
 use lib.ListN.{set}
-use Rattle.qspi_calls.proofs.ListLoops.{Written, writes, none_left, all_written}
+use Rattle.qspi_calls.proofs.ListLoops.{Written, writes, none_left}
 use Rattle.qspi_calls.proofs.sectors.numbered.Goals as goal
-use Rattle.qspi_calls.proofs.sectors.numbered.Reads as reads
-use Rattle.zedboard_bsp.proofs.qspi_spansion.limits.sector_number.Reads as sector-number-reads
 
 -- src/sectors.rt:75:5
 pub loop-at-preserved : goal.loop-at-preserved

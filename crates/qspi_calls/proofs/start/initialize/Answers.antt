@@ -1,20 +1,8 @@
-use Rattle.std.proofs.Common.{rules, ◌≡◌, true, false, ℕ, ◌+◌, ◌-◌, ◌*◌, ◌<◌, ◌≤◌, length, ◌/◌, ◌%◌, Bool, nat_eq, nat_lt, List, [], ◌∷◌, ◌++◌, slice_index_or, slice_set, bit_and, bit_or, Fits, w8, w32, w64, Bor, MutBor}
-use Rattle.qspi_calls.specs.Begins.{Begins, BeginsWith, BeginsInto, BeginsList}
+use Rattle.std.proofs.Common.{◌-◌}
 use Rattle.qspi_calls.proofs.StartLaws.{worded, too_wide}
 use native.Mathlib.Omega.{arith}
-use Rattle.qspi_calls.specs.Starts as spec
-use Rattle.qspi_calls.specs.Calls as call
-use Rattle.qspi_transfer.specs.declared.low_level.Sequence.TheVariants as sequence
-use Rattle.qspi_script.specs.declared.Stage.TheVariants as stage
-use Rattle.qspi_script.specs.declared.Gives.TheVariants as gives
 use Rattle.qspi_calls.proofs.start.initialize.Goals as goal
 use Rattle.qspi_calls.proofs.Begins as begins
-use Rattle.qspi_calls.proofs.start.initialize.Reads as reads
-use Rattle.qspi_calls.proofs.start.over.Reads as over_reads
-use Rattle.qspi_calls.proofs.start.registers.Reads as registers-reads
-use Rattle.qspi_calls.proofs.start.registers_job.Reads as registers-job-reads
-use Rattle.qspi_calls.proofs.start.sequence_of.Reads as sequence-of-reads
-use Rattle.zynq7000_hal.proofs.qspi.initialize_words.Reads as initialize-words-reads
 
 -- src/start.rt:568:1
 pub returns-in-Words-clause-begins : goal.returns-in-Words-clause-begins

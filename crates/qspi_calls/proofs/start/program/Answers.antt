@@ -1,24 +1,8 @@
-use Rattle.std.proofs.Common.{rules, ◌≡◌, true, false, ℕ, ◌+◌, ◌-◌, ◌*◌, ◌<◌, ◌≤◌, length, ◌/◌, ◌%◌, Bool, nat_eq, nat_lt, List, [], ◌∷◌, ◌++◌, slice_index_or, slice_set, bit_and, bit_or, Fits, w8, w32, w64, Bor, MutBor}
-use Rattle.qspi_calls.specs.Begins.{Begins, BeginsWith, BeginsInto, BeginsList}
-use mathlib.Core.Path.{◌∙◌, sym}
-use borrow.Author.Tests.{eq-eqb, ne_eqb, ltb-false}
+use Rattle.std.proofs.Common.{true, false, ◌-◌}
+use borrow.Author.Tests.{eq-eqb, ne_eqb}
 use native.Mathlib.Omega.{arith}
-use Rattle.zedboard_bsp.specs.Limits.{max_data_bytes_per_write}
-use Rattle.qspi_calls.specs.Starts as spec
-use Rattle.qspi_calls.specs.Calls as call
-use Rattle.qspi_transfer.specs.declared.low_level.Sequence.TheVariants as sequence
-use Rattle.qspi_script.specs.declared.Stage.TheVariants as stage
-use Rattle.qspi_script.specs.declared.Gives.TheVariants as gives
 use Rattle.qspi_calls.proofs.start.program.Goals as goal
 use Rattle.qspi_calls.proofs.Begins as begins
-use Rattle.qspi_calls.proofs.start.program.Reads as reads
-use Rattle.qspi_calls.proofs.start.going.Reads as going-reads
-use Rattle.qspi_calls.proofs.start.over.Reads as over_reads
-use Rattle.qspi_calls.proofs.start.place.Reads as place-reads
-use Rattle.qspi_calls.proofs.start.programming.Reads as programming-reads
-use Rattle.zedboard_bsp.proofs.qspi_spansion.limits.crosses_page.Reads as crosses-page-reads
-use Rattle.zedboard_bsp.proofs.qspi_spansion.limits.out_of_range.Reads as out-of-range-reads
-use Rattle.zedboard_bsp.proofs.qspi_spansion.limits.too_large.Reads as too-large-reads
 
 -- src/start.rt:431:9
 pub returns-then-out_of_range-clause-begins : goal.returns-then-out_of_range-clause-begins

@@ -1,11 +1,5 @@
-use Rattle.std.proofs.Common.{rules, ◌≡◌, true, false, ℕ, ◌+◌, ◌-◌, ◌*◌, ◌<◌, ◌≤◌, length, ◌/◌, ◌%◌, Bool, nat_eq, nat_lt, List, [], ◌∷◌, ◌++◌, slice_index_or, slice_set, bit_and, bit_or, Fits, w8, w32, w64, Bor, MutBor}
-use Rattle.qspi_calls.specs.Begins.{Begins, BeginsWith, BeginsInto, BeginsList}
+use Rattle.std.proofs.Common.{◌-◌}
 use native.Mathlib.Omega.{arith}
-use Rattle.qspi_calls.specs.Starts as spec
-use Rattle.qspi_calls.specs.Calls as call
-use Rattle.qspi_transfer.specs.declared.low_level.Sequence.TheVariants as sequence
-use Rattle.qspi_script.specs.declared.Stage.TheVariants as stage
-use Rattle.qspi_script.specs.declared.Gives.TheVariants as gives
 use Rattle.qspi_calls.proofs.start.read_configuration_register.Goals as goal
 use Rattle.qspi_calls.proofs.Begins as begins
 

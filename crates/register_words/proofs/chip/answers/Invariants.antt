@@ -1,5 +1,4 @@
-use Rattle.std.proofs.Common.{◌-◌, ◌≡◌, ℕ, ◌+◌, ◌*◌, ◌<◌, ◌≤◌, length}
-use native.Mathlib.Omega.{arith}
+use Rattle.std.proofs.Common.{◌-◌}
 use Rattle.register_words.proofs.chip.answers.Given as goal
 
 abbrev pub invariant-loop-i : goal.invariant-loop-i

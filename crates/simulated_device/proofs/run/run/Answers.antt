@@ -1,10 +1,7 @@
-use Rattle.std.proofs.Common.{rules, ◌≡◌, false, ◌-◌, ℕ, ◌+◌, ◌*◌, ◌<◌, ◌≤◌, length, ◌/◌, ◌%◌, Bool, true, nat_eq, nat_lt, List, [], ◌∷◌, ◌++◌, slice_index_or, slice_set, bit_and, bit_or, Fits, w8, w32, w64, Bor, MutBor}
-use Rattle.qspi_operation.specs.declared.Reply.TheVariants.{Nothing}
-use Rattle.qspi_operation.specs.Step.{same_lengths, is_going}
-use Rattle.simulated_device.specs.Simulated.{sim_of}
-use Rattle.simulated_device.specs.Running.{met_of, met_read, met_write, met_on, due_in, beginning, turns, Turn, ran_of}
+use Rattle.std.proofs.Common.{◌≡◌, false, ◌-◌, true}
+use Rattle.qspi_operation.specs.Step.{is_going}
+use Rattle.simulated_device.specs.Running.{ran_of}
 use mathlib.Core.Path.{refl, sym, ◌∙◌}
-use native.Mathlib.Omega.{arith}
 use Rattle.simulated_device.proofs.Turns.{turn_from, is_turn, met_turn, refused_turn, turn_more, turn_over, no_turn, none_left, by_counters}
 use Rattle.simulated_device.proofs.run.run.Goals as goal
 

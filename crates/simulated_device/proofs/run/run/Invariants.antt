@@ -1,12 +1,6 @@
-use Rattle.std.proofs.Common.{◌≡◌, false, ◌-◌, ℕ, ◌+◌, ◌*◌, ◌<◌, ◌≤◌, length}
-use Rattle.qspi_operation.specs.declared.Reply.TheVariants.{Nothing}
-use Rattle.qspi_operation.specs.Step.{same_lengths, is_going}
-use Rattle.simulated_device.specs.Simulated.{sim_of}
-use Rattle.simulated_device.specs.Running.{met_of, met_read, met_write, met_on, due_in, beginning, turns, Turn, ran_of}
-use mathlib.Core.Path.{refl, sym, ◌∙◌}
-use mathlib.Core.Bool.{true}
-use native.Mathlib.Omega.{arith}
-use Rattle.simulated_device.proofs.Turns.{turn_from, is_turn, met_turn, refused_turn, turn_more, turn_over, no_turn, none_left, by_counters}
+use Rattle.std.proofs.Common.{◌≡◌, false, ◌-◌, length}
+use Rattle.simulated_device.specs.Running.{turns, ran_of}
+use Rattle.simulated_device.proofs.Turns.{turn_from}
 use Rattle.simulated_device.proofs.run.run.Given as goal
 
 abbrev pub invariant-loop-left : goal.invariant-loop-left

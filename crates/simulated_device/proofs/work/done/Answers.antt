@@ -1,7 +1,7 @@
-use Rattle.std.proofs.Common.{rules, ◌≡◌, ◌+◌, ◌-◌, ◌≤◌, length, ℕ, ◌*◌, ◌<◌, ◌/◌, ◌%◌, Bool, true, false, nat_eq, nat_lt, List, [], ◌∷◌, ◌++◌, slice_index_or, slice_set, bit_and, bit_or, Fits, w8, w32, w64, Bor, MutBor}
-use Rattle.simulated_device.specs.Simulated.{no_work, programming, erasing, asked_for, done_byte, done_from, latched, executed, raised}
-use mathlib.Core.Path.{refl, sym, ◌∙◌}
-use Rattle.simulated_device.proofs.Steps.{one_done, all_done, none_done}
+use Rattle.std.proofs.Common.{rules, ◌-◌, true, false}
+use Rattle.simulated_device.specs.Simulated.{done_byte}
+use mathlib.Core.Path.{sym, ◌∙◌}
+use Rattle.simulated_device.proofs.Steps.{one_done, all_done}
 use Rattle.simulated_device.proofs.work.done.Goals as goal
 
 -- src/work.rt:113:5

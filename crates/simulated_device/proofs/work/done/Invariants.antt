@@ -1,7 +1,5 @@
-use Rattle.std.proofs.Common.{◌-◌, ◌≡◌, ◌+◌, ◌≤◌, length, ℕ, ◌*◌, ◌<◌}
-use Rattle.simulated_device.specs.Simulated.{no_work, programming, erasing, asked_for, done_byte, done_from, latched, executed, raised}
-use mathlib.Core.Path.{refl, sym, ◌∙◌}
-use Rattle.simulated_device.proofs.Steps.{one_done, all_done, none_done}
+use Rattle.std.proofs.Common.{◌-◌, ◌≡◌, length}
+use Rattle.simulated_device.specs.Simulated.{done_from}
 use Rattle.simulated_device.proofs.work.done.Given as goal
 
 abbrev pub invariant-loop-i : goal.invariant-loop-i

@@ -1,4 +1,4 @@
-use Rattle.std.proofs.Common.{◌-◌, ◌≡◌, ℕ, ◌+◌, ◌*◌, ◌<◌, ◌≤◌, length, arith, rules}
+use Rattle.std.proofs.Common.{◌-◌}
 use Rattle.step_orders.proofs.print.answers.Given as goal
 
 abbrev pub invariant-loop-slot : goal.invariant-loop-slot
