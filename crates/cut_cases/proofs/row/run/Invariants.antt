@@ -1,0 +1,9 @@
+use Rattle.std.proofs.Common.{◌≡◌, ℕ, ◌+◌, ◌-◌, ◌*◌, ◌<◌, ◌≤◌, length, arith}
+use Rattle.cut_cases.proofs.row.run.Given as goal
+
+abbrev pub invariant-loop-left : goal.invariant-loop-left
+invariant-loop-left l = length l.log ≡ length l.initial.log
+
+-- proposed from the loop's first test
+abbrev pub decreases-loop-left : goal.decreases-loop-left
+decreases-loop-left l = l.left
