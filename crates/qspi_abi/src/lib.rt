@@ -1,5 +1,5 @@
-// The driver as a static library, for programs in C and Rust: numbers and slices in, a struct of numbers
-// out. `include/qspi.h` declares these functions and says what the numbers are. Each runs one call from
+// The driver's calls with numbers and slices in, a struct of numbers out: what `qspi_abi_c` exports to C and
+// Rust. `include/qspi.h` declares these functions and says what the numbers are. Each runs one call from
 // its start to its end over the replies and the log lent; any input gets an answer.
 #![tactic(auto)]
 
