@@ -1,4 +1,4 @@
-/* The QSPI flash driver as a C library: link target/staticlib/libqspi_abi.a (`rt staticlib qspi_abi`).
+/* The QSPI flash driver as a C library: link target/staticlib/libqspi_abi.a (made by `tools/staticlib`).
  *
  * Each function runs one call from its start to its end over replies and a log that are lent to it. Nothing here touches
  * hardware: a register read takes the next reply, and each access goes into the log as two words, the offset (plus 0x100 for a

@@ -1,5 +1,5 @@
-//! Points the linker at the archive that `rt staticlib qspi_abi` makes in the repository's root; `QSPI_ABI_DIR` names another
-//! folder.
+//! Points the linker at the archive that `tools/staticlib` makes in the repository's `target/staticlib`; `QSPI_ABI_DIR` names
+//! another folder.
 
 use std::env;
 use std::path::{Path, PathBuf};
@@ -11,7 +11,7 @@ fn main() {
     // Without this line cargo would keep linking the archive of the first build.
     println!("cargo::rerun-if-changed={}", archive.display());
     if !archive.exists() {
-        println!("cargo::warning={} is missing: run `rt staticlib qspi_abi` or set QSPI_ABI_DIR", archive.display());
+        println!("cargo::warning={} is missing: run `tools/staticlib` or set QSPI_ABI_DIR", archive.display());
     }
     println!("cargo::rustc-link-search=native={}", folder.display());
     println!("cargo::rustc-link-lib=static=qspi_abi");
