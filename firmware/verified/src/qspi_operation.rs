@@ -315,7 +315,7 @@ fn count(read: bool, replies: usize) -> usize {
 }
 
 // An access goes into the log.
-// requires { ⌜ at + 2 ≤ length (now log) ⌝ }
+// requires { at + 2 ≤ length log.old }
 fn put(log: &mut [u32], at: usize, first: u32, value: u32) {
     log[at] = first;
     log[at + 1] = value;
@@ -333,7 +333,7 @@ fn unmoved(op: Op, how: How) -> Passed {
 }
 
 // One access of an operation that is going on, or none, where the frame of its transfer is at hand.
-// requires { ⌜ (frame ≡ frameOf (op .job) (op .place)) × (op .status ≡ Going) ⌝ }
+// requires { (frame ≡ frame_of op.job op.place) × (op.status ≡ Going) }
 fn pass(
     op: Op,
     frame: Frame,
@@ -422,7 +422,7 @@ pub fn step(op: Op, data: &[u8], buffer: &mut [u8], log: &mut [u32], reply: Repl
 
 // The accesses of the transfer at hand, to its last one or to where the run stops. Only its wire and the
 // used counts go round the loop, and field by field: a struct that is copied whole takes its padding along.
-// requires { ⌜ op .status ≡ Going ⌝ }
+// requires { op.status ≡ Going }
 fn transfer(op: Op, data: &[u8], buffer: &mut [u8], log: &mut [u32], replies: &[u32]) -> Stepped {
     let job = op.job;
     let place = op.place;

@@ -34,7 +34,7 @@ pub fn first_refused(list: &[u32]) -> usize {
 }
 
 // Whether a sector is among the first so many of a list.
-// requires { ⌜ count ≤ length (now list) ⌝ }
+// requires { count ≤ length list.now }
 fn is_among(list: &[u32], count: usize, addr: u32) -> bool {
     let mut at: usize = 0;
     while at < count {

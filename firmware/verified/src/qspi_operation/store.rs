@@ -22,7 +22,7 @@ fn store_byte(buffer: &mut [u8], place: Place, dummy: u32, at: u32, byte: u8) {
 }
 
 // The four bytes of a reply, low byte first.
-// requires { ⌜ at + 3 < 4294967296 ⌝ }
+// requires { at + 3 < 4294967296 }
 fn store_reply(buffer: &mut [u8], place: Place, dummy: u32, at: u32, reply: u32) {
     store_byte(buffer, place, dummy, at, (reply % 0x100) as u8);
     store_byte(buffer, place, dummy, at + 1, (reply / 0x100 % 0x100) as u8);

@@ -3,13 +3,13 @@
 //! 32; `proofs/BitLaws.antt` shows that setting and clearing leave every other bit as it was.
 
 // Whether the bit is set.
-// requires { ⌜ at < 32 ⌝ }
+// requires { at < 32 }
 pub fn is_set(word: u32, at: u32) -> bool {
     (word >> at) % 2 == 1
 }
 
 // The word with the bit set.
-// requires { ⌜ at < 32 ⌝ }
+// requires { at < 32 }
 pub fn put(word: u32, at: u32) -> u32 {
     if (word >> at) % 2 == 1 {
         word
@@ -19,7 +19,7 @@ pub fn put(word: u32, at: u32) -> u32 {
 }
 
 // The word with the bit clear.
-// requires { ⌜ at < 32 ⌝ }
+// requires { at < 32 }
 pub fn clear(word: u32, at: u32) -> u32 {
     if (word >> at) % 2 == 0 {
         word
@@ -29,7 +29,7 @@ pub fn clear(word: u32, at: u32) -> u32 {
 }
 
 // A one-bit field's part of a word.
-// requires { ⌜ at < 32 ⌝ }
+// requires { at < 32 }
 pub fn flag(on: bool, at: u32) -> u32 {
     if on { 1 << at } else { 0 }
 }

@@ -94,13 +94,13 @@ pub enum ClockCalculation {
 }
 
 // n over d, rounded up.
-// requires { ⌜ 0 < d ⌝ }
+// requires { 0 < d }
 fn div_ceil(n: u32, d: u32) -> u32 {
     if n % d == 0 { n / d } else { n / d + 1 }
 }
 
 // The smallest power of two from 2 to 256 that is not below the quotient.
-// requires { ⌜ quotient ≤ 256 ⌝ }
+// requires { quotient ≤ 256 }
 fn baud_rate_div(quotient: u32) -> BaudRateDivisor {
     match quotient {
         0..=2 => BaudRateDivisor::_2,
@@ -331,7 +331,7 @@ fn config_word(divisor: BaudRateDivisor, phase: bool, polarity: bool) -> u32 {
     words[11]
 }
 
-// requires { ⌜ divisor < 64 ⌝ }
+// requires { divisor < 64 }
 fn clk_ctrl_word(divisor: u8, source: SrcSelIo) -> u32 {
     ((divisor as u32) << SingleCommonPeriphIoClockControl::DIVISOR)
         + (source.raw_value() << SingleCommonPeriphIoClockControl::SRCSEL)
