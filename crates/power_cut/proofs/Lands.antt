@@ -86,7 +86,6 @@ Ordered (c ∷ l) = Above (c.address + length c.bytes) l × Ordered l
 above_among : (a : ℕ) (l : List Chunk) {c : Chunk} → Above a l → Among c l → a ≤ c.address
 above_among a (c ∷ l) h here = h.0
 above_among a (b ∷ l) h (there m) = above_among a l h.1 m
-
 -- ---- what each chunk brought, by its addresses
 above_among a [] {c = c} h x'' = elim x'' [ ]
 

@@ -110,8 +110,7 @@ module _ (x : machine.Transfer) (width : ℕ) (q₀ q₁ k : List ℕ) where
     watch_in closing taken h (access.Read o v) e s t m_read = same (raising v) taken h refl
     watch_in (raising w) taken h a e s t m_write = same leaving taken h (rw (high_put w, ends_with h (newest taken)))
     watch_in leaving taken h a e s t m = absurd (true≢false e)
-
--- ---- a stage of a sector
+    -- ---- a stage of a sector
     watch_in draining taken h (access.Write _ _) e s t m = elim m [ ]
     watch_in opening taken h (access.Write _ _) e s t m = elim m [ ]
     watch_in starting taken h (access.Write _ _) e s t m = elim m [ ]

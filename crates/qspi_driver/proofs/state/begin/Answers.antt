@@ -9,5 +9,7 @@ use Rattle.qspi_driver.proofs.state.begin.Goals as goal
 pub returns : goal.returns
 returns c =
     let x = c.args in
-    record { acted = started x.state x.op
-    (sym (ap (λ (b : Bool). begun_if b (erases_list x.op) x.state x.op) (sym c.is_going.ensures.going ∙ c.if-is_going.false) ∙ ap (λ (b : Bool). begun_if false b x.state x.op) (sym c.erases_list.ensures.list ∙ c.if-erases_list.false))) }
+    record {
+      acted = started x.state x.op
+          (sym (ap (λ (b : Bool). begun_if b (erases_list x.op) x.state x.op) (sym c.is_going.ensures.going ∙ c.if-is_going.false) ∙ ap (λ (b : Bool). begun_if false b x.state x.op) (sym c.erases_list.ensures.list ∙ c.if-erases_list.false)));
+    }

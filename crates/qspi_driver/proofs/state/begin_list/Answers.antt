@@ -11,7 +11,9 @@ use Rattle.qspi_driver.proofs.state.begin_list.Goals as goal
 pub returns : goal.returns
 returns c =
     let x = c.args in
-    record { acted = list_started x.state x.kept x.list.now x.log (omega (arith, c.well_formed))
-    (ap (λ (o : Op). record { state = holds o; list = keeps c.numbered-numbers.result; answer = Given o.status }) c.erase_sectors-begun.ensures.start
-    ∙ (ap (λ (ns : List ℕ). record { state = holds (list_op x.list.now x.log); list = keeps ns; answer = Given (list_op x.list.now x.log).status }) c.numbered-numbers.ensures.numbers
-    ∙ sym (ap (λ (b : Bool). begun_list_if b x.state x.kept (list_op x.list.now x.log) x.list.now) (sym c.is_going.ensures.going ∙ c.if-is_going.false)))) }
+    record {
+      acted = list_started x.state x.kept x.list.now x.log (omega (arith, c.well_formed))
+          (ap (λ (o : Op). record { state = holds o; list = keeps c.numbered-numbers.result; answer = Given o.status }) c.erase_sectors-begun.ensures.start
+          ∙ (ap (λ (ns : List ℕ). record { state = holds (list_op x.list.now x.log); list = keeps ns; answer = Given (list_op x.list.now x.log).status }) c.numbered-numbers.ensures.numbers
+          ∙ sym (ap (λ (b : Bool). begun_list_if b x.state x.kept (list_op x.list.now x.log) x.list.now) (sym c.is_going.ensures.going ∙ c.if-is_going.false))));
+    }
