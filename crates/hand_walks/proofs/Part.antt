@@ -1,13 +1,13 @@
 -- An array of bytes in a field of a struct is lent as a `&[u8]` while the struct lies in memory, whole or shared, and the struct comes back. It says nothing of the crate.
 --     Part F P         F lies in P: F beside the way back, F ∗ (F -∗ P)
---     second-field     the second of two fields, and `one_field` the only one, of a struct in memory
---     bytes-part       an array of bytes in memory is its bytes side by side
+--     second_field     the second of two fields, and `one_field` the only one, of a struct in memory
+--     bytes_part       an array of bytes in memory is its bytes side by side
 --     lends_part       given `Room`:  Part (the share t of ys at (b, o)) P  ⊢ ⇛ own (the `&κ [u8]` ((b, o), ys)) ∗ PartLent
---     part-back        [†κ] ∗ PartLent  ⊢ ⇛ P
+--     part_back        [†κ] ∗ PartLent  ⊢ ⇛ P
 -- and of a lifetime α that is made for a call, beside a lifetime κ of the caller's:
---     lft-beside       [α] ∗ [κ]_q  ⊢  [α ∷ κ]_q ∗ ([α ∷ κ]_q -∗ [α] ∗ [κ]_q)
---     shorter-slice    a `&κ [T]` is a `&(α ∷ κ) [T]`
---     dead-beside      [†α]  ⊢  [†(α ∷ κ)]
+--     lft_beside       [α] ∗ [κ]_q  ⊢  [α ∷ κ]_q ∗ ([α ∷ κ]_q -∗ [α] ∗ [κ]_q)
+--     shorter_slice    a `&κ [T]` is a `&(α ∷ κ) [T]`
+--     dead_beside      [†α]  ⊢  [†(α ∷ κ)]
 -- Assumes `Logic`.
 use Prim.Native.Nat.{ℕ, zero, ◌+◌}
 use mathlib.Core.Path.{◌≡◌, refl, sym, ◌∙◌, subst}

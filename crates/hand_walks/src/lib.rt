@@ -1,2 +1,2 @@
-// No code: `proofs/` has what proofs by hand share, over functions that lend a struct or hold a slice.
+// No code: `proofs/` has laws for walks by hand, over functions that lend a struct or hold a slice.
 #![tactic(auto)]

@@ -1,6 +1,7 @@
-const STDOUT_FILENO: i32 = 1;
 // The line of a call: number, name, answer, used log words, used replies, bytes programmed or sectors
 // erased, digests of all of the log and of all of the buffer, lent or not, and the values.
+
+const STDOUT_FILENO: i32 = 1;
 
 // How a call ended. It has so many values by its kind, zeros where it is not done; a list of sectors has
 // the place that is refused. `finished` are the bytes or sectors that ended clean.

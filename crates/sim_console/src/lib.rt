@@ -3,6 +3,8 @@
 // (`fault`).
 #![tactic(auto)]
 
+ghost use Rattle.std.specs.Prelude.{◌≡◌, length};
+
 use crate::items::MOST_BYTES;
 use crate::lent::LONG_PART;
 use crate::report::Shows;
@@ -56,11 +58,19 @@ fn last_line(input: &[u8]) -> usize {
     count
 }
 
+// An array of one byte. Its length is a parameter, since the prover counts out a literal of a known one,
+// and half a million is too many for it.
+fn filled<const N: usize>(byte: u8) -> [u8; N]
+    ensures { N ≡ length result }
+{
+    [byte; N]
+}
+
 // Requests that are at hand as text.
 pub fn simulate_text(input: &[u8]) {
     let mut said = items::defaults();
     let mut data = [0u8; MOST_BYTES];
-    let mut array = [0xFFu8; LONG_PART];
+    let mut array: [u8; LONG_PART] = filled(0xFF);
     let wrong = request::read(input, &mut said, &mut data, &mut array);
     if wrong == fault::NOTHING {
         simulate(input, &said, &mut array);
@@ -71,7 +81,7 @@ pub fn simulate_text(input: &[u8]) {
 
 // What the array held before the row is kept beside it.
 fn simulate(input: &[u8], requests: &[usize], array: &mut [u8]) {
-    let mut before = [0u8; LONG_PART];
+    let mut before: [u8; LONG_PART] = filled(0);
     let mut log = [0u32; WORDS];
     let end = least(lent::size_of(requests), array.len());
     words::copy(&array[0..end], &mut before);

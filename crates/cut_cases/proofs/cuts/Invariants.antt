@@ -1,4 +1,4 @@
-use Rattle.std.proofs.Common.{◌-◌, ◌≤◌, length, ◌≡◌, ℕ, ◌+◌, ◌*◌, ◌<◌, arith}
+use Rattle.std.proofs.Common.{◌-◌}
 use Rattle.cut_cases.proofs.cuts.Given as goal
 
 abbrev pub invariant-loop-k : goal.invariant-loop-k

@@ -1,4 +1,4 @@
-use Rattle.std.proofs.Common.{◌-◌, ◌≡◌, ℕ, ◌+◌, ◌*◌, ◌<◌, ◌≤◌, length, refl, ◌∙◌, arith}
+use Rattle.std.proofs.Common.{◌-◌, ◌≡◌, length}
 use Rattle.sim_console.proofs.cut_lines.Given as goal
 
 abbrev pub invariant-loop-k : goal.invariant-loop-k

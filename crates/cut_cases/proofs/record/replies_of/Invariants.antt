@@ -1,4 +1,4 @@
-use Rattle.std.proofs.Common.{◌-◌, ◌<◌, ◌≤◌, length, ◌≡◌, ℕ, ◌+◌, ◌*◌, arith, rules}
+use Rattle.std.proofs.Common.{◌-◌, ◌<◌, ◌≤◌, length, ◌≡◌}
 use Rattle.cut_cases.proofs.record.replies_of.Given as goal
 
 abbrev pub invariant-loop-i : goal.invariant-loop-i

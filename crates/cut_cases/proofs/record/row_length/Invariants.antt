@@ -1,4 +1,4 @@
-use Rattle.std.proofs.Common.{◌<◌, ◌≤◌, length, ◌≡◌, ℕ, ◌+◌, ◌-◌, ◌*◌, arith}
+use Rattle.std.proofs.Common.{◌≤◌, length, ◌-◌}
 use Rattle.cut_cases.proofs.record.row_length.Given as goal
 
 abbrev pub invariant-loop-left : goal.invariant-loop-left

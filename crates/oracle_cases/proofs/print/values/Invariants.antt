@@ -1,5 +1,4 @@
-use Rattle.std.proofs.Common.{◌-◌, ◌≡◌, ℕ, ◌+◌, ◌*◌, ◌<◌, ◌≤◌, length}
-use native.Mathlib.Omega.{arith}
+use Rattle.std.proofs.Common.{◌-◌}
 use Rattle.oracle_cases.proofs.print.values.Given as goal
 
 abbrev pub invariant-loop-i : goal.invariant-loop-i

@@ -1,5 +1,4 @@
-use Rattle.std.proofs.Common.{length, ◌-◌, ◌≤◌, ◌<◌, ◌≡◌, ℕ, ◌+◌, ◌*◌}
-use native.Mathlib.Omega.{arith}
+use Rattle.std.proofs.Common.{length, ◌-◌, ◌≡◌}
 use Rattle.oracle_cases.proofs.record.words_of.Given as goal
 
 abbrev pub invariant-loop-i : goal.invariant-loop-i

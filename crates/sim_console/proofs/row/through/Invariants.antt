@@ -1,4 +1,4 @@
-use Rattle.std.proofs.Common.{length, ◌-◌, ◌≤◌, ◌≡◌, ℕ, ◌+◌, ◌*◌, ◌<◌, refl, ◌∙◌, arith}
+use Rattle.std.proofs.Common.{length, ◌-◌, ◌≤◌, ◌≡◌, ◌+◌}
 use Rattle.sim_console.proofs.row.through.Given as goal
 
 abbrev pub invariant-loop-at : goal.invariant-loop-at

@@ -1,4 +1,4 @@
-use Rattle.std.proofs.Common.{◌-◌, ◌<◌, ◌≤◌, ◌≡◌, ℕ, ◌+◌, ◌*◌, length, arith}
+use Rattle.std.proofs.Common.{◌-◌}
 use Rattle.sim_console.proofs.sectors.entries.Given as goal
 
 abbrev pub invariant-loop-i : goal.invariant-loop-i
