@@ -112,8 +112,8 @@ fn finish(
     Driven { driver, answer }
 }
 
-// A whole call: `op` is begun and stepped to its end, the replies in order. A caller that has the driver by
-// value needs no proof by hand.
+// A whole call: `op` is begun and stepped to its end, the replies in order, for a caller that has the driver
+// by value.
 pub fn drive(
     driver: QspiSpansionS25Fl256SIoMode,
     op: Op,
