@@ -19,7 +19,7 @@
  * A slice is a pointer and a number of elements. The pointer is not null and aligned, also where the number is 0, and slices
  * of one call do not overlap.
  *
- * The archive is for x86-64 Linux; it is no build for the Zynq.
+ * The archive is for x86-64 Linux (x86-64-v2: processors with SSE 4.2); it is no build for the Zynq.
  */
 #ifndef QSPI_H
 #define QSPI_H
