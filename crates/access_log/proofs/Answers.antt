@@ -1,10 +1,9 @@
 -- What stands at a place, in document 01's numbers. Assumes nothing.
+use Rattle.std.specs.Prelude.{None}
 use Rattle.std.proofs.Common.{◌≡◌, ℕ, ◌+◌, ◌-◌, ◌*◌, ◌%◌, ◌≤◌, Bool, true, false, cond, eqb, ltb, leb, List, [], ◌∷◌, length, get_or, refl, ap, ◌∙◌, arith, ltb-false}
 use Rattle.zynq7000.specs.Access.{record_of_words}
 use Rattle.zynq7000.specs.Number.{Refusal, accepted, refused_with}
-use Rattle.access_log.specs.declared.Entry.{Entry}
-use Rattle.access_log.specs.declared.Entry.TheVariants as entry
-use Rattle.access_log.specs.Log.{answer_of, entry_of, placed, entry_at, record_answer, placed_answer, answer_at}
+use Rattle.access_log.specs.Log.{Entry, bad_at, answer_of, entry_of, placed, entry_at, record_answer, placed_answer, answer_at}
 
 -- an access that is read has the record's two words as its own
 module _ (first v at : ℕ) where
@@ -22,7 +21,7 @@ module _ (first v at : ℕ) where
   record_answer_lem = by_tests (ltb 0x1FC first) refl (eqb (first % 4) 0) refl (ltb first 0x100) refl
 
 by_place : (whole begun : Bool) (e : Entry) (at : ℕ)
-    → answer_of (cond whole e (cond begun (entry.BadLog at) entry.End)) ≡ cond whole (answer_of e) (cond begun (refused_with Refusal.BadLog (at ∷ [])) (accepted []))
+    → answer_of (cond whole e (cond begun (bad_at at) None)) ≡ cond whole (answer_of e) (cond begun (refused_with Refusal.BadLog (at ∷ [])) (accepted []))
 by_place true begun e at = refl
 by_place false true e at = refl
 by_place false false e at = refl

@@ -1,19 +1,14 @@
 -- How many accesses lead a log: the first place that holds none. Assumes nothing.
 use Rattle.std.proofs.Common.{◌≡◌, ℕ, zero, suc, ◌+◌, ◌<◌, ◌≤◌, Bool, true, false, ltb, List, [], ◌++◌, length, sym, refl, ap, ◌∙◌, append-nil, zero-add, arith, ltb-false, ltb-true}
+use Rattle.std.proofs.lemmas.Bool.{false≢true}
 use Rattle.zynq7000.specs.Access.{encode, Loggable}
 use Rattle.zynq7000.specs.declared.qspi.Access.{Access}
 use Rattle.zynq7000.specs.declared.qspi.Access.TheVariants.{Write}
-use Rattle.access_log.specs.declared.Entry.{Entry}
-use Rattle.access_log.specs.Log.{is_access, entry_at}
+use Rattle.access_log.specs.Log.{Entry, is_access, entry_at}
 use Rattle.access_log.specs.Reader.{first_other, accesses_in}
 use Rattle.access_log.proofs.Finding.{access_within}
 use Rattle.access_log.proofs.Places.{at_end}
 use Rattle.access_log.proofs.RoundTrip.{reads_back, reads_end}
-
-false_true : (b : Bool) → b ≡ false → b ≡ true → ⊥
-false_true b e f =
-    let z : ◌≡◌ {A = ℕ} 0 1 = cc in
-    omega arith
 
 -- ---- the first place that holds no access
 
@@ -115,5 +110,5 @@ accesses_least l rest o = by-test (ltb (accesses_in (encode l ++ rest)) (length 
   where
     by-test : (b : Bool) → ltb (accesses_in (encode l ++ rest)) (length l) ≡ b → length l ≤ accesses_in (encode l ++ rest)
     by-test true e =
-        absurd (false_true _ (accesses_end (encode l ++ rest)) (written_before l rest o (accesses_in (encode l ++ rest)) (ltb-true _ _ e)))
+        absurd (false≢true (sym (accesses_end (encode l ++ rest)) ∙ written_before l rest o (accesses_in (encode l ++ rest)) (ltb-true _ _ e)))
     by-test false e = ltb-false _ _ e

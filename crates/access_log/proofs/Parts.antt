@@ -1,13 +1,14 @@
 -- The text of a log from its parts: a printer may go buffer by buffer. Assumes nothing.
+use Rattle.std.specs.Prelude.{Some, None, Ok, Err}
 use Rattle.std.proofs.Common.{◌≡◌, ℕ, zero, suc, ◌+◌, ◌*◌, ◌/◌, ◌%◌, ◌^◌, ◌<◌, ◌≤◌, Bool, true, false, cond, ltb, List, ◌++◌, length, get_or, sym, refl, ap, ◌∙◌, append_assoc, add_assoc, add-suc, add_comm, suc-add, zero-add, arith, length-append, get_or-append-add, ltb-false, ltb-true}
+use Rattle.std.proofs.lemmas.Bool.{false≢true}
 use lib.ListN.{get_or-append}
 use native.Mathlib.Nat.{mod-add-mod}
 use Rattle.zynq7000.specs.Access.{record_of_words}
-use Rattle.zynq7000.specs.declared.qspi.Record.{Record}
-use Rattle.zynq7000.specs.declared.qspi.Record.TheVariants as record_of
-use Rattle.access_log.specs.declared.Entry.{Entry}
-use Rattle.access_log.specs.declared.Entry.TheVariants as entry
-use Rattle.access_log.specs.Log.{is_access, entry_of, entry_in, word_at}
+use Rattle.zynq7000.specs.declared.qspi.BadLog.{BadLog}
+use Rattle.zynq7000.specs.declared.qspi.Access.{Access}
+use Rattle.std.specs.Prelude.{Result}
+use Rattle.access_log.specs.Log.{Entry, bad_at, is_access, entry_of, entry_in, word_at}
 use Rattle.access_log.specs.Text.{line_of, bad_line, line_then, text_of, log_text, all_accesses}
 use Rattle.access_log.proofs.Bytes.{word_moved}
 use Rattle.access_log.proofs.Places.{in_whole, in_short, in_end}
@@ -30,14 +31,14 @@ enough (suc n) more bytes first at h =
 
 -- a place of the second part, as a place of the whole
 raised : ℕ → Entry → Entry
-raised m (entry.Access a) = entry.Access a
-raised m entry.End = entry.End
-raised m (entry.BadLog at) = entry.BadLog (m + at)
+raised m (Some (Ok a)) = Some (Ok a)
+raised m None = None
+raised m (Some (Err e)) = bad_at (m + e.at)
 
-raised_record : (m at : ℕ) (r : Record) → entry_of r (m + at) ≡ raised m (entry_of r at)
+raised_record : (m at : ℕ) (r : Result Access BadLog) → entry_of r (m + at) ≡ raised m (entry_of r at)
 unfolding raised
-raised_record m at (record_of.Access a) = refl
-raised_record m at record_of.BadLog = refl
+raised_record m at (Ok a) = refl
+raised_record m at (Err e) = refl
 
 -- `a` is m whole records
 module _ (m : ℕ) (a b : List ℕ) (whole : length a ≡ m * 8) where
@@ -83,36 +84,31 @@ module _ (m : ℕ) (a b : List ℕ) (whole : length a ≡ m * 8) where
 -- a line of the second part, numbered from the first
 line_raised : (m first : ℕ) (e : Entry) (rest : List ℕ) → line_then (raised m e) first rest ≡ line_then e ((first + m) % 2 ^ 64) rest
 unfolding raised
-line_raised m first (entry.Access a) rest = refl
-line_raised m first entry.End rest = refl
-line_raised m first (entry.BadLog at) rest =
-    let e : (first + (m + at)) % 2 ^ 64 ≡ ((first + m) % 2 ^ 64 + at) % 2 ^ 64 =
-    ap (λ (n : ℕ). n % 2 ^ 64) (sym (add_assoc first m at)) ∙ sym (mod-add-mod (first + m) (2 ^ 64) at) in
+line_raised m first (Some (Ok a)) rest = refl
+line_raised m first None rest = refl
+line_raised m first (Some (Err bad)) rest =
+    let e : (first + (m + bad.at)) % 2 ^ 64 ≡ ((first + m) % 2 ^ 64 + bad.at) % 2 ^ 64 =
+    ap (λ (n : ℕ). n % 2 ^ 64) (sym (add_assoc first m bad.at)) ∙ sym (mod-add-mod (first + m) (2 ^ 64) bad.at) in
     ap bad_line e
-
-false_true : ◌≡◌ {A = Bool} false true → ⊥
-false_true e =
-    let z : ◌≡◌ {A = ℕ} 0 1 = cc in
-    omega arith
 
 -- where an entry is an access, its line stands before what follows, and the rest are accesses too
 line_then_on : (e : Entry) (rest : Bool) → cond (is_access e) rest false ≡ true → (first : ℕ) (x y : List ℕ)
     → line_then e first (x ++ y) ≡ line_then e first x ++ y
-line_then_on (entry.Access a) rest h first x y = sym (append_assoc (line_of a) x y)
-line_then_on entry.End rest h first x y = absurd (false_true h)
-line_then_on (entry.BadLog at) rest h first x y = absurd (false_true h)
+line_then_on (Some (Ok a)) rest h first x y = sym (append_assoc (line_of a) x y)
+line_then_on None rest h first x y = absurd (false≢true h)
+line_then_on (Some (Err e)) rest h first x y = absurd (false≢true h)
 
 rest_all : (e : Entry) (rest : Bool) → cond (is_access e) rest false ≡ true → rest ≡ true
-rest_all (entry.Access a) rest h = h
-rest_all entry.End rest h = absurd (false_true h)
-rest_all (entry.BadLog at) rest h = absurd (false_true h)
+rest_all (Some (Ok a)) rest h = h
+rest_all None rest h = absurd (false≢true h)
+rest_all (Some (Err e)) rest h = absurd (false≢true h)
 
 -- past an entry that is no access nothing is printed
 line_then_same : (e : Entry) (rest : Bool) (first : ℕ) (x y : List ℕ) → cond (is_access e) rest false ≡ false → (rest ≡ false → x ≡ y)
     → line_then e first x ≡ line_then e first y
-line_then_same (entry.Access a) rest first x y h f = ap (λ (l : List ℕ). line_of a ++ l) (f h)
-line_then_same entry.End rest first x y h f = refl
-line_then_same (entry.BadLog at) rest first x y h f = refl
+line_then_same (Some (Ok a)) rest first x y h f = ap (λ (l : List ℕ). line_of a ++ l) (f h)
+line_then_same None rest first x y h f = refl
+line_then_same (Some (Err e)) rest first x y h f = refl
 
 module _ (m : ℕ) (a b : List ℕ) (whole : length a ≡ m * 8) (first : ℕ) where
   second_text : (count at : ℕ) → text_of count (entry_in (a ++ b)) first (m + at) ≡ text_of count (entry_in b) ((first + m) % 2 ^ 64) at
@@ -146,7 +142,7 @@ module _ (m : ℕ) (a b : List ℕ) (whole : length a ≡ m * 8) (first : ℕ) w
   -- the same where a record that is left is no access: what follows the first part is not printed
   from_bad : (count left at : ℕ) → at + left ≡ m → all_accesses left (entry_in a) at ≡ false
       → text_of (left + count) (entry_in (a ++ b)) first at ≡ text_of left (entry_in a) first at
-  from_bad count zero at e some = absurd (false_true (sym some ∙ all_none (entry_in a) at))
+  from_bad count zero at e some = absurd (false≢true (sym some ∙ all_none (entry_in a) at))
   from_bad count (suc left) at e some =
       let rest : Bool = all_accesses left (entry_in a) (suc at) in
       let here : cond (is_access (entry_in a at)) rest false ≡ false = sym (all_next left (entry_in a) at) ∙ some in

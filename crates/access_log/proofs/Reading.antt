@@ -1,9 +1,9 @@
 -- What a reader gives, entry by entry: the accesses that wrote the log, then the end, and the same again for ever. Assumes nothing.
+use Rattle.std.specs.Prelude.{Some, None, Ok}
 use Rattle.std.proofs.Common.{◌≡◌, ℕ, zero, suc, ◌+◌, ◌<◌, ◌≤◌, true, false, List, [], ◌++◌, length, get_or, sym, refl, ap, ◌∙◌, append-nil, arith}
 use Rattle.zynq7000.specs.Access.{encode, Loggable}
 use Rattle.zynq7000.specs.declared.qspi.Access.{Access}
 use Rattle.zynq7000.specs.declared.qspi.Access.TheVariants.{Write}
-use Rattle.access_log.specs.declared.Entry.TheVariants as entry
 use Rattle.access_log.specs.declared.reader.LogReader.{LogReader}
 use Rattle.access_log.specs.Log.{is_access, entry_at}
 use Rattle.access_log.specs.Reader.{next_of, read_of, read_times}
@@ -58,7 +58,7 @@ module _ (d : Access) (rest : List ℕ) (l : List Access) (o : Loggable l) (r : 
       ∙ ap (placed_at r) place
 
   -- THEOREM. It gives the k-th access as the k-th, at the place k.
-  pub reader_reads_back : (k : ℕ) → k < length l → (next_of (read_times k r) ≡ entry.Access (get_or l k d)) × ((read_times k r).at ≡ k)
+  pub reader_reads_back : (k : ℕ) → k < length l → (next_of (read_times k r) ≡ Some (Ok (get_or l k d))) × ((read_times k r).at ≡ k)
   reader_reads_back k h =
       let at : read_times k r ≡ placed_at r k = reader_at k (omega arith) in (
         ap next_of at ∙ (next_entry (placed_at r k) ∙ (ap (λ (w : List ℕ). entry_at w k) is ∙ reads_back d rest l k o h)),
@@ -80,10 +80,10 @@ reader_repeats r none k = ap next_of (reader_stays r none k)
 
 -- THEOREM. Of a log that accesses wrote, the reader gives the end after them, for ever.
 pub reader_ends : (l : List Access) → Loggable l → (r : LogReader) → r.log.now ≡ encode l → r.at ≡ 0
-    → (k : ℕ) → next_of (read_times k (read_times (length l) r)) ≡ entry.End
+    → (k : ℕ) → next_of (read_times k (read_times (length l) r)) ≡ None
 reader_ends l o r is from k =
     let at : read_times (length l) r ≡ placed_at r (length l) =
     reader_at (Write 0 0) [] l o r (is ∙ sym (append-nil (encode l))) from (length l) (omega arith) in
-    let end : next_of (read_times (length l) r) ≡ entry.End =
+    let end : next_of (read_times (length l) r) ≡ None =
     ap next_of at ∙ (next_entry (placed_at r (length l)) ∙ (ap (λ (w : List ℕ). entry_at w (length l)) is ∙ reads_end l)) in
     reader_repeats (read_times (length l) r) (ap is_access end) k ∙ end

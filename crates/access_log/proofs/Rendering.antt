@@ -1,8 +1,8 @@
 -- The loop that renders a log: the lines so far stand in the buffer, and the text from here on is still to come. Assumes nothing.
+use Rattle.std.specs.Prelude.{Some, None, Ok}
+use Rattle.access_log.specs.Log.{Entry, bad_at}
 use Rattle.std.proofs.Common.{◌≡◌, ℕ, suc, ◌+◌, ◌-◌, ◌*◌, ◌%◌, ◌^◌, ◌<◌, ◌≤◌, Bool, true, false, List, [], ◌++◌, length, sym, refl, ap, ◌∙◌, subst, append-nil, add-one, arith}
 use Rattle.zynq7000.specs.declared.qspi.Access.{Access}
-use Rattle.access_log.specs.declared.Entry.{Entry}
-use Rattle.access_log.specs.declared.Entry.TheVariants as entry
 use Rattle.access_log.specs.Text.{line_of, bad_line, text_of, all_accesses, written, over}
 use Rattle.access_log.proofs.Buffer.{Grown, grown_none, grown_more, grown_length, grown_all}
 use Rattle.access_log.proofs.Lines.{line_length, bad_most}
@@ -19,11 +19,6 @@ abbrev pub Result : (ℕ → Entry) → ℕ → List ℕ → List ℕ → ℕ �
 Result entries first before out len more =
     (out ≡ over (text_of 512 entries first 0) before)
     × ((len ≡ length (text_of 512 entries first 0)) × (more ≡ all_accesses 512 entries 0))
-
--- the same of fields that equal the two
-pub answers : {P : Type 0} {len len' n : ℕ} {more more' b : Bool} → (len' ≡ len) × (more' ≡ more) → P × ((len ≡ n) × (more ≡ b))
-    → P × ((len' ≡ n) × (more' ≡ b))
-answers e s = (s.0, (e.0 ∙ s.1.0, e.1 ∙ s.1.1))
 
 pub starts : (entries : ℕ → Entry) (first : ℕ) (out : List ℕ) → Rendering entries first out out 0
 starts entries first out = record { within = omega arith; grown = grown_none out (text_of 512 entries first 0); all = refl }
@@ -47,7 +42,7 @@ module _ (entries : ℕ → Entry) (first : ℕ) (before out : List ℕ) (at : �
   done len end more g e =
       (grown_all before end len (text_of 512 entries first 0) g, (grown_length before end len (text_of 512 entries first 0) g, sym e))
 
-  pub goes_on : at < 512 → 7200 ≤ length out → (a : Access) → entries at ≡ entry.Access a
+  pub goes_on : at < 512 → 7200 ≤ length out → (a : Access) → entries at ≡ Some (Ok a)
       → Rendering entries first before (written out (at * 14) (line_of a)) (at + 1)
   goes_on h room a e =
       let rest : List ℕ = text_of (512 - (at + 1)) entries first (at + 1) in
@@ -65,12 +60,12 @@ module _ (entries : ℕ → Entry) (first : ℕ) (before out : List ℕ) (at : �
             (all_access (512 - (at + 1)) entries at a e ∙ ap (λ (n : ℕ). all_accesses (512 - (at + 1)) entries n) (sym (add-one at)));
       }
 
-  pub stops_at_end : at < 512 → entries at ≡ entry.End → Result entries first before out (at * 14) false
+  pub stops_at_end : at < 512 → entries at ≡ None → Result entries first before out (at * 14) false
   stops_at_end h e =
       done (at * 14) out false (next h [] (text_end (512 - (at + 1)) entries first at e))
       (next_all h false (all_end (512 - (at + 1)) entries at e))
 
-  pub stops_at_bad : at < 512 → 7200 ≤ length out → (k n : ℕ) → entries at ≡ entry.BadLog k → n ≡ (first + k) % 2 ^ 64
+  pub stops_at_bad : at < 512 → 7200 ≤ length out → (k n : ℕ) → entries at ≡ bad_at k → n ≡ (first + k) % 2 ^ 64
       → Result entries first before (written out (at * 14) (bad_line n)) (at * 14 + length (bad_line n)) false
   stops_at_bad h room k n e number =
       let text : text_of (suc (512 - (at + 1))) entries first at ≡ bad_line n ++ [] =

@@ -1,10 +1,11 @@
 -- Reading a log that accesses wrote gives them back, in order, and then the end. Assumes nothing.
+use Rattle.std.specs.Prelude.{Some, None, Ok}
 use Rattle.std.proofs.Common.{◌≡◌, ℕ, zero, suc, ◌+◌, ◌*◌, ◌/◌, ◌<◌, List, [], ◌∷◌, ◌++◌, length, get_or, refl, ap, ◌∙◌, arith, length-append}
 use Rattle.zynq7000.specs.Access.{offset_in, first_word, value_word, encode, record_of_words, Aligned, Loggable}
 use Rattle.zynq7000.proofs.AccessLaws.{read_words_lem, length_encode}
 use Rattle.zynq7000.specs.declared.qspi.Access.{Access}
-use Rattle.zynq7000.specs.declared.qspi.Record.{Record}
-use Rattle.access_log.specs.declared.Entry.TheVariants as entry
+use Rattle.zynq7000.specs.declared.qspi.BadLog.{BadLog}
+use Rattle.std.specs.Prelude.{Result}
 use Rattle.access_log.specs.Log.{entry_of, entry_at}
 use Rattle.access_log.proofs.Places.{at_whole, at_end}
 
@@ -40,14 +41,14 @@ module _ (d : Access) (rest : List ℕ) where
   loggable_at (a ∷ l) (suc k) h o = loggable_at l k (omega arith) o.1
 
   -- THEOREM. At each place below the number of accesses stands the access of that place, whatever follows in the log.
-  pub reads_back : (l : List Access) (k : ℕ) → Loggable l → k < length l → entry_at (encode l ++ rest) k ≡ entry.Access (get_or l k d)
+  pub reads_back : (l : List Access) (k : ℕ) → Loggable l → k < length l → entry_at (encode l ++ rest) k ≡ Some (Ok (get_or l k d))
   reads_back l k o h =
       let long : k < length (encode l ++ rest) / 2 = omega (arith, length-append (encode l) rest, length_encode l) in
       at_whole (encode l ++ rest) k long
       ∙ (ap (λ (w : ℕ). entry_of (record_of_words w (get_or (encode l ++ rest) (k * 2 + 1) 0)) k) (first_at_lem l k h)
       ∙ (ap (λ (w : ℕ). entry_of (record_of_words (first_word (get_or l k d)) w) k) (value_at l k h)
-      ∙ ap (λ (r : Record). entry_of r k) (read_words_lem (get_or l k d) (loggable_at l k h o))))
+      ∙ ap (λ (r : Result Access BadLog). entry_of r k) (read_words_lem (get_or l k d) (loggable_at l k h o))))
 
 -- THEOREM. Behind the last access stands the end.
-pub reads_end : (l : List Access) → entry_at (encode l) (length l) ≡ entry.End
+pub reads_end : (l : List Access) → entry_at (encode l) (length l) ≡ None
 reads_end l = at_end (encode l) (length l) (omega (arith, length_encode l))

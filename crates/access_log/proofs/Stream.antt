@@ -1,9 +1,8 @@
 -- The text of a log, record by record. Assumes nothing.
+use Rattle.std.specs.Prelude.{Some, None, Ok}
 use Rattle.std.proofs.Common.{◌≡◌, ℕ, zero, suc, ◌+◌, ◌%◌, ◌^◌, ◌<◌, ◌≤◌, Bool, true, false, cond, [], ◌++◌, sym, refl, ap, ◌∙◌, arith}
 use Rattle.zynq7000.specs.declared.qspi.Access.{Access}
-use Rattle.access_log.specs.declared.Entry.{Entry}
-use Rattle.access_log.specs.declared.Entry.TheVariants as entry
-use Rattle.access_log.specs.Log.{is_access}
+use Rattle.access_log.specs.Log.{Entry, bad_at, is_access}
 use Rattle.access_log.specs.Text.{line_of, bad_line, line_then, text_of, all_accesses}
 
 -- ---- the text at a place, by what stands there
@@ -21,16 +20,16 @@ module _ (count : ℕ) (entries : ℕ → Entry) (first at : ℕ) where
   unfolding text_of
   text_next = refl
 
-  pub text_access : (a : Access) → entries at ≡ entry.Access a
+  pub text_access : (a : Access) → entries at ≡ Some (Ok a)
       → text_of (suc count) entries first at ≡ line_of a ++ text_of count entries first (suc at)
   unfolding text_of
   text_access a e = rw e
 
-  pub text_end : entries at ≡ entry.End → text_of (suc count) entries first at ≡ []
+  pub text_end : entries at ≡ None → text_of (suc count) entries first at ≡ []
   unfolding text_of
   text_end e = rw e
 
-  pub text_bad : (k : ℕ) → entries at ≡ entry.BadLog k → text_of (suc count) entries first at ≡ bad_line ((first + k) % 2 ^ 64)
+  pub text_bad : (k : ℕ) → entries at ≡ bad_at k → text_of (suc count) entries first at ≡ bad_line ((first + k) % 2 ^ 64)
   unfolding text_of
   text_bad k e = rw e
 
@@ -39,16 +38,16 @@ module _ (count : ℕ) (entries : ℕ → Entry) (at : ℕ) where
   unfolding all_accesses
   all_next = refl
 
-  pub all_access : (a : Access) → entries at ≡ entry.Access a
+  pub all_access : (a : Access) → entries at ≡ Some (Ok a)
       → all_accesses (suc count) entries at ≡ all_accesses count entries (suc at)
   unfolding all_accesses
   all_access a e = rw e
 
-  pub all_end : entries at ≡ entry.End → all_accesses (suc count) entries at ≡ false
+  pub all_end : entries at ≡ None → all_accesses (suc count) entries at ≡ false
   unfolding all_accesses
   all_end e = rw e
 
-  pub all_bad : (k : ℕ) → entries at ≡ entry.BadLog k → all_accesses (suc count) entries at ≡ false
+  pub all_bad : (k : ℕ) → entries at ≡ bad_at k → all_accesses (suc count) entries at ≡ false
   unfolding all_accesses
   all_bad k e = rw e
 

@@ -1,34 +1,41 @@
 -- What stands at a place of a log: document 01, "Log and printer", and rule 13 of "What the input can bring on". A place is a record's
 -- number from 0; a record is two words, or their eight bytes, low byte first.
-use Rattle.std.specs.Prelude.{ℕ, ◌+◌, ◌*◌, ◌/◌, ◌%◌, Bool, true, false, cond, List, [], ◌∷◌, length, ◌==◌, nat_le, nat_lt, slice_index}
+use Rattle.std.specs.Prelude.{ℕ, ◌+◌, ◌*◌, ◌/◌, ◌%◌, Bool, true, false, cond, List, [], ◌∷◌, length, ◌==◌, nat_le, nat_lt, slice_index, Option, Some, None, Result, Ok, Err}
 use Rattle.zynq7000.specs.Access.{first_word, value_word, record_of_words}
 use Rattle.zynq7000.specs.Number.{Answer, Refusal, accepted, refused_with}
-use Rattle.zynq7000.specs.declared.qspi.Record.{Record}
-use Rattle.zynq7000.specs.declared.qspi.Record.TheVariants as record_of
-use Rattle.access_log.specs.declared.Entry.{Entry}
-use Rattle.access_log.specs.declared.Entry.TheVariants as entry
+use Rattle.zynq7000.specs.declared.qspi.Access.{Access}
+use Rattle.zynq7000.specs.declared.qspi.BadLog.{BadLog}
+use Rattle.access_log.specs.declared.BadRecord.{BadRecord}
+
+-- what stands at a place: an access, a record that is none, or nothing from the log's end on
+abbrev pub Entry : Type 0
+Entry = Option (Result Access BadRecord)
+
+-- a record that 13 refuses, by its place
+abbrev pub bad_at : ℕ → Entry
+bad_at at = Some (Err (record { at = at }))
 
 -- 01's number for an entry, with the access's two words or the place of the record that is refused
 abbrev pub answer_of : Entry → Answer
-answer_of (entry.Access a) = accepted (first_word a ∷ value_word a ∷ [])
-answer_of entry.End = accepted []
-answer_of (entry.BadLog at) = refused_with Refusal.BadLog (at ∷ [])
+answer_of (Some (Ok a)) = accepted (first_word a ∷ value_word a ∷ [])
+answer_of None = accepted []
+answer_of (Some (Err e)) = refused_with Refusal.BadLog (e.at ∷ [])
 
 abbrev pub is_access : Entry → Bool
-is_access (entry.Access a) = true
-is_access entry.End = false
-is_access (entry.BadLog at) = false
+is_access (Some (Ok a)) = true
+is_access None = false
+is_access (Some (Err e)) = false
 
 -- a whole record, at its place
-abbrev pub entry_of : Record → ℕ → Entry
-entry_of (record_of.Access a) at = entry.Access a
-entry_of record_of.BadLog at = entry.BadLog at
+abbrev pub entry_of : Result Access BadLog → ℕ → Entry
+entry_of (Ok a) at = Some (Ok a)
+entry_of (Err e) at = bad_at at
 
 -- a place whose record is whole, short, or not begun, where a record has `size` words or bytes of `len`
-abbrev pub placed : ℕ → ℕ → ℕ → Record → Entry
+abbrev pub placed : ℕ → ℕ → ℕ → Result Access BadLog → Entry
 placed size len at r =
     cond (nat_le (at * size + size) len) (entry_of r at)
-    (cond (nat_lt (at * size) len) (entry.BadLog at) entry.End)
+    (cond (nat_lt (at * size) len) (bad_at at) None)
 
 -- "An access is two 32-bit words"; rule 13: "record short, or first word not a multiple of 4 or above 1FC"
 unfoldable pub entry_at : List ℕ → ℕ → Entry

@@ -1,10 +1,9 @@
 -- A reader of a log of words: document 01, "For the log printer a reader keeps the lent log and its place together", "with one thin method
 -- giving the next access". What it does behind the end or 13 is left open there: it stays, and gives the same again.
 use Rattle.std.specs.Prelude.{ℕ, zero, suc, ◌+◌, cond, List, length}
-use Rattle.access_log.specs.declared.Entry.{Entry}
 use Rattle.access_log.specs.declared.reader.Found.{Found}
 use Rattle.access_log.specs.declared.reader.LogReader.{LogReader}
-use Rattle.access_log.specs.Log.{is_access, entry_at}
+use Rattle.access_log.specs.Log.{Entry, is_access, entry_at}
 
 -- the entry at a place, and the place that is read next
 unfoldable pub found_at : List ℕ → ℕ → Found

@@ -1,11 +1,9 @@
 -- The text of a log: document 01, "Log and printer". "prints one line each: W or R, offset in two hex digits, value in eight, upper case,
 -- no header. At 13 it prints one line, BAD, a space and the record's number from 0 in decimal, and stops." Characters are ASCII codes.
-use Rattle.std.specs.Prelude.{ℕ, zero, suc, ◌+◌, ◌/◌, ◌%◌, ◌^◌, Bool, true, false, cond, List, [], ◌∷◌, ◌++◌, length, take, drop, nat_lt}
+use Rattle.std.specs.Prelude.{ℕ, zero, suc, ◌+◌, ◌/◌, ◌%◌, ◌^◌, Bool, true, false, cond, List, [], ◌∷◌, ◌++◌, length, take, drop, nat_lt, Some, None, Ok, Err}
 use Rattle.zynq7000.specs.declared.qspi.Access.{Access}
 use Rattle.zynq7000.specs.declared.qspi.Access.TheVariants.{Read, Write}
-use Rattle.access_log.specs.declared.Entry.{Entry}
-use Rattle.access_log.specs.declared.Entry.TheVariants as entry
-use Rattle.access_log.specs.Log.{is_access, entry_in}
+use Rattle.access_log.specs.Log.{Entry, is_access, entry_in}
 
 -- `0` to `9`, then `A` to `F`
 abbrev pub hex_digit : ℕ → ℕ
@@ -42,9 +40,9 @@ bad_line n = (66 ∷ 65 ∷ 68 ∷ space ∷ []) ++ decimal_up_to 20 n ++ (newli
 
 -- an entry's line, and the lines after it; numbers have 64 bits
 abbrev pub line_then : Entry → ℕ → List ℕ → List ℕ
-line_then (entry.Access a) first rest = line_of a ++ rest
-line_then entry.End first rest = []
-line_then (entry.BadLog at) first rest = bad_line ((first + at) % 2 ^ 64)
+line_then (Some (Ok a)) first rest = line_of a ++ rest
+line_then None first rest = []
+line_then (Some (Err e)) first rest = bad_line ((first + e.at) % 2 ^ 64)
 
 -- the text of at most `count` records from place `at` on, by the entry at each place; place 0 has the number `first`
 unfoldable pub text_of : ℕ → (ℕ → Entry) → ℕ → ℕ → List ℕ

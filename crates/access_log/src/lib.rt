@@ -3,9 +3,9 @@
 #![tactic(auto)]
 
 ghost use Rattle.std.specs.Prelude.{◌≡◌};
-ghost use Rattle.access_log.specs.Log.{answer_of, answer_at, entry_of, entry_at};
+ghost use Rattle.access_log.specs.Log.{answer_of, answer_at, entry_at};
 
-use zynq7000::qspi::{Access, Record};
+use zynq7000::qspi::Access;
 
 mod printer;
 mod reader;
@@ -14,15 +14,14 @@ mod words;
 pub use printer::{Rendered, render, render_words};
 pub use reader::{Found, LogReader, accesses, found_at};
 
-// What stands at a place of a log.
-#[derive(Clone, Copy)]
-pub enum Entry {
-    Access(Access),
-    // The log holds nothing from here on.
-    End,
-    // Refusal 13, with the place.
-    BadLog(usize),
+// A record that is no access (refusal 13), by its place.
+#[derive(Clone, Copy, Debug, PartialEq, Eq)]
+pub struct BadRecord {
+    pub at: usize,
 }
+
+// What stands at a place of a log: an access, a record that is none, or nothing from the log's end on.
+pub type Entry = Option<Result<Access, BadRecord>>;
 
 // What stands at a place of a log of words.
 pub fn entry_at(log: &[u32], at: usize) -> Entry
@@ -31,24 +30,11 @@ pub fn entry_at(log: &[u32], at: usize) -> Entry
 {
     let whole = log.len() / 2;
     if at < whole {
-        let first = log[at * 2];
-        let value = log[at * 2 + 1];
-        return of_record(Record::of_words(first, value), at);
+        let access = Access::of_words(log[at * 2], log[at * 2 + 1]);
+        return Some(access.or(Err(BadRecord { at })));
     }
-    if at == whole {
-        if log.len() % 2 != 0 {
-            return Entry::BadLog(at);
-        }
+    if at == whole && log.len() % 2 != 0 {
+        return Some(Err(BadRecord { at }));
     }
-    Entry::End
-}
-
-// A whole record at its place.
-fn of_record(found: Record, at: usize) -> Entry
-    ensures entry { result ≡ entry_of found at }
-{
-    match found {
-        Record::Access(access) => Entry::Access(access),
-        Record::BadLog => Entry::BadLog(at),
-    }
+    None
 }

@@ -4,8 +4,7 @@ ghost use Rattle.io.specs.Counts.{IsPrefixLen};
 ghost use Rattle.access_log.specs.Log.{entry_at, entry_in};
 ghost use Rattle.access_log.specs.Text.{hex_digit, decimal_up_to, line_with, line_of, bad_line, text_of, all_accesses, written, over};
 
-use crate::Entry;
-use crate::reader::read_at;
+use crate::LogReader;
 use crate::words::{RECORDS, WORDS, words_in};
 use zynq7000::qspi::Access;
 
@@ -14,21 +13,13 @@ const ROOM: usize = 7200;
 
 const LINE: usize = 14;
 
-// How a buffer was rendered.
+// How a buffer was rendered. A text is its length in a buffer that is lent, as a board has no heap for it.
 #[derive(Clone, Copy)]
 pub struct Rendered {
     // The bytes of text at the front of the buffer.
     pub len: usize,
     // All 512 records were accesses: the log may go on.
     pub more: bool,
-}
-
-impl Rendered {
-    fn new(len: usize, more: bool) -> Rendered
-        ensures fields { (result.len ≡ len) × (result.more ≡ more) }
-    {
-        Rendered { len, more }
-    }
 }
 
 // Writes the text of at most 512 records of a log of bytes to the front of `out`. `first` is the number
@@ -55,29 +46,34 @@ pub fn render_words(log: &[u32], first: u64, out: &mut [u8; ROOM]) -> Rendered
 }
 
 // `render_words` on a slice that has the room: a line for each entry that a reader of the log gives, up to
-// its end or the line of a record that 13 refuses. Each turn makes the reader anew, where the one before
-// stood.
+// its end or the line of a record that 13 refuses.
 fn put_lines(log: &[u32], first: u64, out: &mut [u8]) -> Rendered
     requires { 7200 ≤ length out.old }
     ensures text { out.new ≡ over (text_of 512 (entry_at log.now) first 0) out.old }
     ensures len { result.len ≡ length (text_of 512 (entry_at log.now) first 0) }
     ensures more { result.more ≡ all_accesses 512 (entry_at log.now) 0 }
 {
-    let mut at: usize = 0;
-    while at < RECORDS {
-        let found = read_at(log, at);
-        let entry = found.entry;
-        match entry {
-            Entry::Access(access) => put_line(out, at * LINE, access),
-            Entry::End => return Rendered::new(at * LINE, false),
-            Entry::BadLog(place) => {
-                let number = std::num::wrapping_add_u64(first, place as u64);
-                return Rendered::new(put_bad(out, at * LINE, number), false);
+    let mut reader = LogReader { log, at: 0 };
+    for at in 0..RECORDS {
+        match reader.next() {
+            Some(Ok(access)) => put_line(out, at * LINE, access),
+            Some(Err(bad)) => {
+                let number = first.wrapping_add(bad.at as u64);
+                let len = put_bad(out, at * LINE, number);
+                return Rendered { len, more: false };
+            }
+            None => {
+                return Rendered {
+                    len: at * LINE,
+                    more: false,
+                };
             }
         }
-        at = found.next;
     }
-    Rendered::new(RECORDS * LINE, true)
+    Rendered {
+        len: RECORDS * LINE,
+        more: true,
+    }
 }
 
 // Writes an access's line.
@@ -116,11 +112,7 @@ fn put(out: &mut [u8], at: usize, text: &[u8])
     requires { at + length text.now ≤ length out.old }
     ensures written { out.new ≡ written out.old at text.now }
 {
-    let mut i = 0;
-    while i < text.len() {
-        out[at + i] = text[i];
-        i += 1;
-    }
+    out[at..at + text.len()].copy_from_slice(text);
 }
 
 // An access's line.
@@ -137,36 +129,29 @@ fn line(access: Access) -> [u8; LINE]
 fn line_with(kind: u8, offset: u8, value: u32) -> [u8; LINE]
     ensures line { result ≡ line_with kind offset value }
 {
-    let offset = offset as u32;
-    let v1 = value / 16;
-    let v2 = v1 / 16;
-    let v3 = v2 / 16;
-    let v4 = v3 / 16;
-    let v5 = v4 / 16;
-    let v6 = v5 / 16;
-    let v7 = v6 / 16;
+    let [a, b, c, d] = value.to_be_bytes();
     [
         kind,
         b' ',
         digit(offset / 16),
         digit(offset),
         b' ',
-        digit(v7),
-        digit(v6),
-        digit(v5),
-        digit(v4),
-        digit(v3),
-        digit(v2),
-        digit(v1),
-        digit(value),
+        digit(a / 16),
+        digit(a),
+        digit(b / 16),
+        digit(b),
+        digit(c / 16),
+        digit(c),
+        digit(d / 16),
+        digit(d),
         b'\n',
     ]
 }
 
 // The last hex digit of a number, upper case.
-fn digit(n: u32) -> u8
+fn digit(n: u8) -> u8
     ensures digit { result ≡ hex_digit (n % 16) }
 {
-    let d = (n % 16) as u8;
+    let d = n % 16;
     if d < 10 { b'0' + d } else { b'A' + (d - 10) }
 }

@@ -26,11 +26,7 @@ pub fn found_at(log: &[u32], at: usize) -> Found
 fn is_access(entry: Entry) -> bool
     ensures access { result ≡ is_access entry }
 {
-    match entry {
-        Entry::Access(_) => true,
-        Entry::End => false,
-        Entry::BadLog(_) => false,
-    }
+    matches!(entry, Some(Ok(_)))
 }
 
 // A lent log and the place that is read next.
@@ -40,6 +36,8 @@ pub struct LogReader<'a> {
     pub at: usize,
 }
 
+// No `Iterator`: the clauses of `next` say what is given from the log's end or a refused record on, again and
+// again, and a loop over an iterator without an end is not proved.
 impl<'a> LogReader<'a> {
     // The next access; from the end or a record that 13 refuses on, the same again.
     pub fn next(&mut self) -> Entry
@@ -53,24 +51,11 @@ impl<'a> LogReader<'a> {
     }
 }
 
-// What a reader that starts at a place gives, and where it stands then.
-pub fn read_at(log: &[u32], at: usize) -> Found
-    ensures read { result ≡ found_at log.now at }
-{
-    let mut reader = LogReader { log, at };
-    let entry = reader.next();
-    let next = reader.at;
-    Found { entry, next }
-}
-
 // How many accesses stand in a log before its end or the first record that 13 refuses.
 pub fn accesses(log: &[u32]) -> usize
     ensures accesses { result ≡ accesses_in log.now }
 {
     let mut reader = LogReader { log, at: 0 };
-    let mut count: usize = 0;
-    while is_access(reader.next()) {
-        count += 1;
-    }
-    count
+    while is_access(reader.next()) {}
+    reader.at
 }

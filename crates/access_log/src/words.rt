@@ -8,7 +8,8 @@ pub const RECORDS: usize = 512;
 
 pub const WORDS: usize = 1024;
 
-// Puts the words of at most 512 records at the front of `words`, and returns how many there are.
+// Puts the words of at most 512 records at the front of `words`, and returns how many there are: were they
+// lent as the result, no clause could say that they stand there.
 pub fn words_in(bytes: &[u8], words: &mut [u32; WORDS]) -> usize
     ensures counts { IsPrefixLen result words.new }
     ensures same { (at : ℕ) → at < 512 → entry_at (take result words.new) at ≡ entry_in bytes.now at }
@@ -37,10 +38,8 @@ fn put_words(words: &mut [u32], bytes: &[u8], count: usize)
     requires { (count ≤ length words.old) × (count * 4 ≤ length bytes.now) }
     ensures words { (i : ℕ) → i < count → slice_index words.new i ≡ word_at bytes.now (i * 4) }
 {
-    let mut i: usize = 0;
-    while i < count {
+    for i in 0..count {
         words[i] = word(bytes, i * 4);
-        i += 1;
     }
 }
 
@@ -49,14 +48,5 @@ fn word(bytes: &[u8], at: usize) -> u32
     requires { at + 4 ≤ length bytes.now }
     ensures word { result ≡ word_at bytes.now at }
 {
-    wide(bytes[at])
-        + wide(bytes[at + 1]) * 0x100
-        + wide(bytes[at + 2]) * 0x1_0000
-        + wide(bytes[at + 3]) * 0x100_0000
-}
-
-fn wide(byte: u8) -> u32
-    ensures same { (result ≡ byte) × (result < 0x100) }
-{
-    byte as u32
+    u32::from_le_bytes([bytes[at], bytes[at + 1], bytes[at + 2], bytes[at + 3]])
 }

@@ -3,58 +3,42 @@
 // `tools/config_words` makes the stored output.
 #![tactic(auto)]
 
+use std::io::Result;
 use zynq7000::qspi::BaudRateDivisor;
 use zynq7000_hal::qspi;
 
-const STDOUT_FILENO: i32 = 1;
+// Each program that goes over the divisors names those that it prints, in its order: the ported crate has no list.
+const DIVISORS: [BaudRateDivisor; 8] = [
+    BaudRateDivisor::_2,
+    BaudRateDivisor::_4,
+    BaudRateDivisor::_8,
+    BaudRateDivisor::_16,
+    BaudRateDivisor::_32,
+    BaudRateDivisor::_64,
+    BaudRateDivisor::_128,
+    BaudRateDivisor::_256,
+];
 
-fn main() {
-    divisor(BaudRateDivisor::_2);
-    divisor(BaudRateDivisor::_4);
-    divisor(BaudRateDivisor::_8);
-    divisor(BaudRateDivisor::_16);
-    divisor(BaudRateDivisor::_32);
-    divisor(BaudRateDivisor::_64);
-    divisor(BaudRateDivisor::_128);
-    divisor(BaudRateDivisor::_256);
-}
-
-fn divisor(divisor: BaudRateDivisor) {
-    line(divisor, false, false);
-    line(divisor, false, true);
-    line(divisor, true, false);
-    line(divisor, true, true);
-}
-
-fn line(divisor: BaudRateDivisor, phase: bool, polarity: bool) {
-    io::write_all(STDOUT_FILENO, b"divisor ");
-    io::print_decimal(STDOUT_FILENO, divisor.divisor() as u64);
-    flag(b" phase ", phase);
-    flag(b" polarity ", polarity);
-    io::write_all(STDOUT_FILENO, b" ->");
-    let by_field = qspi::config_by_field(divisor, phase, polarity);
-    words(&by_field);
-    io::write_all(STDOUT_FILENO, b"\n");
-}
-
-fn flag(name: &[u8], on: bool) {
-    io::write_all(STDOUT_FILENO, name);
-    if on {
-        io::write_all(STDOUT_FILENO, b"1");
-    } else {
-        io::write_all(STDOUT_FILENO, b"0");
+fn main(rt: HostRuntime) -> Result<()> {
+    for divisor in DIVISORS {
+        for phase in [false, true] {
+            for polarity in [false, true] {
+                line(&rt, divisor, phase, polarity)?;
+            }
+        }
     }
+    Ok(())
 }
 
-fn words(words: &[u32]) {
-    let mut i: usize = 0;
-    while i < words.len() {
-        word(words[i]);
-        i += 1;
+fn line(rt: &impl Print, divisor: BaudRateDivisor, phase: bool, polarity: bool) -> Result<()> {
+    print!(rt;
+        "divisor {} phase {} polarity {} ->",
+        divisor.divisor(),
+        u8::from(phase),
+        u8::from(polarity)
+    )?;
+    for word in qspi::config_by_field(divisor, phase, polarity) {
+        print!(rt; " {word:08x}")?;
     }
-}
-
-fn word(w: u32) {
-    io::write_all(STDOUT_FILENO, b" ");
-    io::print_hex(STDOUT_FILENO, w as u64, 8);
+    println!(rt)
 }

@@ -17,77 +17,85 @@
 // what the program must print.
 #![tactic(auto)]
 
-ghost use Rattle.std.specs.Prelude.{◌≤◌, length};
+ghost use Rattle.std.specs.Prelude.{◌<◌, length, IfOk};
 
-use printing::STDIN_FILENO;
+use fault::Fault;
+use record::Call;
+use std::io;
+use std::io::Read;
 
+mod fault;
 mod print;
 mod record;
 mod row;
 
-// What the log holds beforehand: no record, so that the observer stops where a row did.
+// An input of so many bytes is none that is shown. Reading up to it is one call of std's,
+// which a function for the programs would only rename.
+const TOO_LONG: usize = 32768;
+
+// Accesses that the log of a row has room for.
+const ROOM: usize = 2048;
+
+// What the log holds beforehand: no record, so that the observer stops where a row did. It is the word of
+// `trial_calls::memory`, a crate of which nothing else would be used here.
 const UNTOUCHED: u32 = 0xA5A5_5A5A;
 
-fn main() {
-    let mut input = [0u8; 32768];
-    let len = io::read_full(STDIN_FILENO, &mut input);
-    if len < 32768 {
-        rows(&input[..len]);
-    } else {
-        print::bad(0);
+fn main(rt: HostRuntime) -> io::Result<()> {
+    let mut input = Vec::new(rt.alloc());
+    let len = rt.stdin().take(TOO_LONG as u64).read_to_end(&mut input)?;
+    if len == TOO_LONG {
+        return print::bad(&rt, 0);
     }
+    rows(&rt, input.as_slice())
 }
 
-fn rows(input: &[u8]) {
-    let mut at = 0;
+// No `for`: what is left is known only once a row is shown.
+fn rows(rt: &(impl Print + AllocGlobal), mut rest: &[u8]) -> io::Result<()> {
     let mut number = 0;
-    while at < input.len() {
-        let taken = first_row(number, &input[at..]);
-        if taken == 0 {
-            return print::bad(number);
+    while !rest.is_empty() {
+        match shown(rt, number, rest) {
+            Ok(behind) => rest = behind,
+            Err(Fault::Bad) => return print::bad(rt, number),
+            Err(Fault::Io(error)) => return Err(error),
         }
-        at += taken;
         number += 1;
     }
+    Ok(())
 }
 
-// Shows the first row of the rest, and returns its length: 0 where there is none.
-fn first_row(number: usize, rest: &[u8]) -> usize
-    ensures within { result ≤ length rest.now }
+// Shows the first row of the rest, the whole row and then its cuts, and returns what stands behind it.
+fn shown<'a>(
+    rt: &(impl Print + AllocGlobal),
+    number: usize,
+    rest: &'a [u8],
+) -> Result<&'a [u8], Fault>
+    ensures { IfOk result (λ behind. length behind.now < length rest.now) }
 {
-    let taken = record::row_length(rest);
-    if 0 < taken {
-        show(number, &rest[0..taken]);
+    let (row, behind) = record::first_row(rt.alloc(), rest)?;
+    let row = row.as_slice();
+    print::title(rt, number, row.len())?;
+    let accesses = whole(rt, row)?;
+    for k in 0..=accesses {
+        cut(rt, k, row)?;
     }
-    taken
+    Ok(behind)
 }
 
-// The whole row, and then its cuts.
-fn show(number: usize, row: &[u8]) {
-    let mut log = [UNTOUCHED; 4096];
-    print::title(number, record::calls(row));
-    let whole = row::run(row, &mut log, true);
-    cuts(row, whole.used / 2);
-}
-
-fn cuts(row: &[u8], all: usize) {
-    let mut k: usize = 0;
-    while k < all {
-        point(k, row);
-        k += 1;
+// Shows the calls, and returns the number of their accesses.
+fn whole(rt: &(impl Print + AllocGlobal), row: &[Call<'_>]) -> io::Result<usize> {
+    let mut log = [UNTOUCHED; ROOM * 2];
+    let made = row::run(rt.alloc(), row, &mut log)?;
+    for (number, (call, pages)) in row.iter().zip(made.calls.iter()).enumerate() {
+        print::made(rt, number, call, pages)?;
     }
-    point(all, row);
+    Ok(made.used / 2)
 }
 
 // A cut leaves the log of so many accesses.
-fn point(k: usize, row: &[u8]) {
-    let mut log = [UNTOUCHED; 4096];
-    let room = record::least(record::least(k, 2048) * 2, log.len());
-    cut(k, row, &mut log[0..room]);
-}
-
-fn cut(k: usize, row: &[u8], log: &mut [u32]) {
-    let last = row::run(row, log, false);
-    print::point(k, log_observer::observe(log, k));
-    print::at_hand(last);
+fn cut(rt: &(impl Print + AllocGlobal), k: usize, row: &[Call<'_>]) -> io::Result<()> {
+    let mut log = [UNTOUCHED; ROOM * 2];
+    let log = &mut log[..k.min(ROOM) * 2];
+    let made = row::run(rt.alloc(), row, log)?;
+    print::point(rt, k, log_observer::observe(log, k))?;
+    print::at_hand(rt, made.calls.as_slice())
 }

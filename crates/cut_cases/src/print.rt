@@ -1,69 +1,64 @@
 // The lines.
 use crate::record::Call;
-use crate::row::Progress;
 use log_observer::{Doubt, Watch};
 use power_cut::PagesRan;
-use printing::{decimal, hex, text};
-use qspi_script::Status;
+use std::io;
 
-pub fn bad(number: usize) {
-    decimal(b"BAD ", number);
-    text(b"\n");
+// An address has its last six digits.
+const ADDRESSES: u32 = 0x100_0000;
+
+// One line, as in `call_cases` and `oracle_cases`: a crate to share it would be longer than it.
+pub fn bad(rt: &impl Print, number: usize) -> io::Result<()> {
+    println!(rt; "BAD {number}")
 }
 
-pub fn title(number: usize, calls: usize) {
-    decimal(b"row ", number);
-    decimal(b" calls ", calls);
-    text(b"\n");
+pub fn title(rt: &impl Print, number: usize, calls: usize) -> io::Result<()> {
+    println!(rt; "row {number} calls {calls}")
 }
 
 // A call of the whole row.
-pub fn made(number: usize, call: Call, pages: PagesRan) {
-    let ran = pages.ran;
-    let status = ran.answer;
-    decimal(b"call ", number);
-    hex(b" at ", call.address, 6);
-    decimal(b" length ", call.length);
-    decimal(b" accesses ", ran.used / 2);
-    decimal(b" replies ", ran.replies);
-    answer(number_of(status), pages.programmed);
+pub fn made(rt: &impl Print, number: usize, call: &Call<'_>, pages: &PagesRan) -> io::Result<()> {
+    let address = call.address % ADDRESSES;
+    let length = call.data.len();
+    let accesses = pages.ran.used / 2;
+    let replies = pages.ran.replies;
+    print!(rt;
+        "call {number} at {address:06X} length {length} accesses {accesses} replies {replies}"
+    )?;
+    answer(rt, pages)
 }
 
 // What the log shows after so many accesses.
-pub fn point(k: usize, watch: Watch) {
-    decimal(b"", k);
-    decimal(b" finished ", watch.finished as usize);
-    decimal(b" bytes ", watch.bytes as usize);
-    in_doubt(watch.doubt);
+pub fn point(rt: &impl Print, k: usize, watch: Watch) -> io::Result<()> {
+    print!(rt; "{k} finished {} bytes {}", watch.finished, watch.bytes)?;
+    in_doubt(rt, watch.doubt)
 }
 
-fn in_doubt(doubt: Doubt) {
-    decimal(b" doubt ", doubt.chunks as usize);
-    if doubt.there {
-        hex(b" at ", doubt.address, 6);
-        decimal(b" length ", doubt.length as usize);
-    }
+fn in_doubt(rt: &impl Print, doubt: Option<Doubt>) -> io::Result<()> {
+    let Some(doubt) = doubt else {
+        return print!(rt; " doubt 0");
+    };
+    print!(rt;
+        " doubt {} at {:06X} length {}",
+        doubt.chunks,
+        doubt.address % ADDRESSES,
+        doubt.length
+    )
 }
 
 // The last call made; a row of none has none.
-pub fn at_hand(last: Progress) {
-    if last.calls == 0 {
-        return text(b"\n");
+pub fn at_hand(rt: &impl Print, made: &[PagesRan]) -> io::Result<()> {
+    match made.split_last() {
+        Some((last, before)) => {
+            print!(rt; " call {}", before.len())?;
+            answer(rt, last)
+        }
+        None => println!(rt),
     }
-    decimal(b" call ", last.calls - 1);
-    answer(last.answer, last.programmed);
 }
 
-fn answer(number: usize, programmed: usize) {
-    decimal(b" answer ", number);
-    decimal(b" programmed ", programmed);
-    text(b"\n");
-}
-
-// A call that was run has an end, and so a number.
-const NO_NUMBER: u32 = 26;
-
-pub fn number_of(status: Status) -> usize {
-    let number = status.number();
-    number.unwrap_or(NO_NUMBER) as usize
+fn answer(rt: &impl Print, pages: &PagesRan) -> io::Result<()> {
+    let number = pages.ran.answer as u32;
+    let programmed = pages.programmed;
+    println!(rt; " answer {number} programmed {programmed}")
 }

@@ -1,134 +1,113 @@
-// The calls of the station cases by number, and a whole one through the driver.
+// The calls of the station cases, and a whole one through the driver.
 use crate::memory;
 use crate::memory::LOG;
 use qspi_calls::start;
-use qspi_driver::state::{Answer, Progress, SectorList, State};
-use qspi_driver::{Driven, QspiSpansionS25Fl256SIoMode, state};
+use qspi_driver::state::{SectorList, State};
+use qspi_driver::{Driven, QspiSpansionS25Fl256SIoMode};
 use qspi_operation::Op;
+use std::fmt;
+use trial_calls::memory::UNTOUCHED_BYTE;
 
-pub const PROGRAM: u32 = 0;
-
-pub const WRITE_PAGES: u32 = 1;
-
-pub const READ: u32 = 2;
-
-pub const ERASE: u32 = 3;
-
-pub const EMPTY_READ: u32 = 4;
-
-pub const IO_MODE_ONE: u32 = 5;
-
-pub const IO_MODE_DUAL: u32 = 6;
-
-// Stand for the answers that have no number.
-pub const BUSY: u32 = 256;
-
-pub const LIST_MISSING: u32 = 257;
-
-// How a call ended.
+// Each case has its call's inputs in its variant, and there are an empty read and a mode among them:
+// `trial_calls::call::Call` names the calls without inputs.
 #[derive(Clone, Copy)]
-pub struct Ended {
-    pub answer: u32,
-    pub used: usize,
-    pub replies: usize,
-    pub counted: usize,
+pub enum Call {
+    Erase { addr: u32 },
+    Program { addr: u32, length: usize },
+    WritePages { addr: u32, length: usize },
+    Read { addr: u32, length: usize },
+    EmptyRead { addr: u32 },
+    IoMode { dual_flash: bool },
 }
 
-fn started(call: u32, addr: u32, length: usize) -> Op {
-    match call {
-        0 => start::program(addr, length, LOG),
-        1 => start::write_pages(addr, length, LOG),
-        2 => start::read_page_read(addr, length, LOG),
-        3 => start::erase_sector(addr, LOG),
-        4 => start::read_page_read(addr, length, LOG),
-        _ => start::enable_io_mode(call == IO_MODE_DUAL, LOG),
+impl fmt::Display for Call {
+    fn fmt<W: fmt::Write>(&self, f: &mut fmt::Formatter<W>) -> fmt::Result {
+        match *self {
+            Call::Erase { addr } => write!(f, "erase {addr:06X}"),
+            Call::Program { addr, length } => {
+                write!(f, "program {length} bytes of DE AD BE EF at {addr:06X}")
+            }
+            Call::WritePages { addr, length } => {
+                write!(f, "write_pages of {length} bytes at {addr:06X}")
+            }
+            Call::Read { addr, length } => write!(f, "read of {length} byte at {addr:06X}"),
+            Call::EmptyRead { addr } => write!(f, "empty read at {addr:06X}"),
+            Call::IoMode { dual_flash: false } => write!(f, "io mode, one flash"),
+            Call::IoMode { dual_flash: true } => write!(f, "io mode, dual flash"),
+        }
     }
 }
 
-// A driver at rest, or one whose call has not ended. Its list is seen where it is changed.
-pub fn driver(busy: bool) -> QspiSpansionS25Fl256SIoMode {
-    let idle = QspiSpansionS25Fl256SIoMode::idle();
-    let list = SectorList {
-        numbers: [memory::UNTOUCHED_BYTE; 256],
-    };
-    if busy {
-        let state = State {
+impl Call {
+    // The whole call: it is lent the data or the buffer of its length, and an empty one of the other.
+    pub fn run(
+        self,
+        driver: QspiSpansionS25Fl256SIoMode,
+        buffer: &mut [u8],
+        log: &mut [u32],
+        replies: &[u32],
+    ) -> Driven {
+        let data = memory::data();
+        let given = self.data_length().min(data.len());
+        let read = self.buffer_length().min(buffer.len());
+        qspi_driver::drive(
+            driver,
+            self.begun(),
+            &data[..given],
+            &mut buffer[..read],
+            log,
+            replies,
+        )
+    }
+
+    fn begun(self) -> Op {
+        match self {
+            Call::Erase { addr } => start::erase_sector(addr, LOG),
+            Call::Program { addr, length } => start::program(addr, length, LOG),
+            Call::WritePages { addr, length } => start::write_pages(addr, length, LOG),
+            Call::Read { addr, length } => start::read_page_read(addr, length, LOG),
+            Call::EmptyRead { addr } => start::read_page_read(addr, 0, LOG),
+            Call::IoMode { dual_flash } => start::enable_io_mode(dual_flash, LOG),
+        }
+    }
+
+    fn data_length(self) -> usize {
+        match self {
+            Call::Program { length, .. } | Call::WritePages { length, .. } => length,
+            _ => 0,
+        }
+    }
+
+    fn buffer_length(self) -> usize {
+        match self {
+            Call::Read { length, .. } => length,
+            _ => 0,
+        }
+    }
+}
+
+// A driver at rest. Its list is seen where it is changed.
+pub fn at_rest() -> QspiSpansionS25Fl256SIoMode {
+    QspiSpansionS25Fl256SIoMode {
+        list: SectorList {
+            numbers: [UNTOUCHED_BYTE; 256],
+        },
+        ..QspiSpansionS25Fl256SIoMode::idle()
+    }
+}
+
+// A driver whose call has not ended.
+pub fn under_way() -> QspiSpansionS25Fl256SIoMode {
+    QspiSpansionS25Fl256SIoMode {
+        state: State {
             op: start::write_enable(LOG),
-        };
-        return QspiSpansionS25Fl256SIoMode { state, list };
+        },
+        ..at_rest()
     }
-    let state = idle.state;
-    QspiSpansionS25Fl256SIoMode { state, list }
-}
-
-// A call that is lent the data or the buffer of its length, and an empty one of the other.
-pub fn run(
-    busy: bool,
-    call: u32,
-    addr: u32,
-    length: usize,
-    buffer: &mut [u8],
-    log: &mut [u32],
-    replies: &[u32],
-) -> Ended {
-    let data = memory::data();
-    let len = memory::least(read_length(call, length), buffer.len());
-    let to = memory::least(data_length(call, length), data.len());
-    drive(
-        busy,
-        started(call, addr, length),
-        &data[..to],
-        &mut buffer[..len],
-        log,
-        replies,
-    )
-}
-
-fn drive(
-    busy: bool,
-    op: Op,
-    data: &[u8],
-    buffer: &mut [u8],
-    log: &mut [u32],
-    replies: &[u32],
-) -> Ended {
-    end_of(qspi_driver::drive(driver(busy), op, data, buffer, log, replies))
 }
 
 // A list as any other call is begun, so that the driver is lent none.
 pub fn drive_list(list: &[u32], log: &mut [u32], replies: &[u32]) -> Driven {
     let op = start::erase_sectors(list, log.len());
-    qspi_driver::drive(driver(false), op, &[], &mut [], log, replies)
-}
-
-fn read_length(call: u32, length: usize) -> usize {
-    if call == READ { length } else { 0 }
-}
-
-fn data_length(call: u32, length: usize) -> usize {
-    if call < READ { length } else { 0 }
-}
-
-pub fn progress(driven: Driven) -> Progress {
-    let driver = driven.driver;
-    state::answer_so_far(driver.state)
-}
-
-pub fn end_of(driven: Driven) -> Ended {
-    let answer = driven.answer;
-    let progress = progress(driven);
-    Ended {
-        answer: number(answer),
-        used: progress.used,
-        replies: progress.replies,
-        counted: progress.counted,
-    }
-}
-
-fn number(answer: Answer) -> u32 {
-    let number = answer.number();
-    match answer {
-        Answer::ListMissing => LIST_MISSING,
-        _ => number.unwrap_or(BUSY),
-    }
+    qspi_driver::drive(at_rest(), op, &[], &mut [], log, replies)
 }

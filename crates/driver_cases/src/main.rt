@@ -4,8 +4,12 @@
 // The stored output is made by `tools/driver_cases`, which has the same cases from the paper.
 #![tactic(auto)]
 
-use crate::call::Ended;
-use crate::memory::LOG;
+use crate::call::Call;
+use crate::memory::{BUFFER, LOG};
+use crate::print::Answered;
+use qspi_driver::{QspiSpansionS25Fl256SIoMode, state};
+use std::io;
+use trial_calls::memory::{UNTOUCHED, UNTOUCHED_BYTE, front};
 use zynq7000::qspi;
 
 mod call;
@@ -15,74 +19,109 @@ mod lists;
 mod memory;
 mod print;
 
-fn main() {
-    case(call::ERASE, 0x00FE_0000, 0);
-    case(call::ERASE, 0x00FF_0000, 0);
-    case(call::ERASE, 0x0003_0000, 0);
-    case(call::ERASE, 0x0003_0004, 0);
-    case(call::PROGRAM, 0x0000_0100, 4);
-    case(call::PROGRAM, 0x0000_00F0, 16);
-    case(call::PROGRAM, 0x0000_00F0, 20);
-    case(call::PROGRAM, 0x0000_0000, 241);
-    case(call::PROGRAM, 0x00FF_FFFB, 4);
-    case(call::PROGRAM, 0x00FF_FFFC, 4);
-    case(call::WRITE_PAGES, 0x0000_0040, 256);
-    case(call::WRITE_PAGES, 0x0000_00C0, 256);
-    case(call::WRITE_PAGES, 0x0000_0000, 130);
-    case(call::READ, 0x0000_0102, 1);
-    case(call::EMPTY_READ, 0x0000_0102, 0);
-    clock::inputs();
-    clock::interface(5000000);
-    clock::interface(2500000);
-    clock::interface(781250);
-    clock::interface(781249);
-    clock::loopback(7936508);
-    clock::loopback(7936507);
-    case(call::IO_MODE_ONE, 0, 0);
-    case(call::IO_MODE_DUAL, 0, 0);
-    erase_while_busy(0x0003_0000);
-    lists::cases();
+// Replies of the device, enough for every case.
+const REPLIES: usize = 256;
+
+const ARRAY_CASES: [Call; 15] = [
+    Call::Erase { addr: 0x00FE_0000 },
+    Call::Erase { addr: 0x00FF_0000 },
+    Call::Erase { addr: 0x0003_0000 },
+    Call::Erase { addr: 0x0003_0004 },
+    Call::Program {
+        addr: 0x0000_0100,
+        length: 4,
+    },
+    Call::Program {
+        addr: 0x0000_00F0,
+        length: 16,
+    },
+    Call::Program {
+        addr: 0x0000_00F0,
+        length: 20,
+    },
+    Call::Program {
+        addr: 0x0000_0000,
+        length: 241,
+    },
+    Call::Program {
+        addr: 0x00FF_FFFB,
+        length: 4,
+    },
+    Call::Program {
+        addr: 0x00FF_FFFC,
+        length: 4,
+    },
+    Call::WritePages {
+        addr: 0x0000_0040,
+        length: 256,
+    },
+    Call::WritePages {
+        addr: 0x0000_00C0,
+        length: 256,
+    },
+    Call::WritePages {
+        addr: 0x0000_0000,
+        length: 130,
+    },
+    Call::Read {
+        addr: 0x0000_0102,
+        length: 1,
+    },
+    Call::EmptyRead { addr: 0x0000_0102 },
+];
+
+fn main(rt: HostRuntime) -> io::Result<()> {
+    for call in ARRAY_CASES {
+        case(&rt, call)?;
+    }
+    clock::inputs(&rt)?;
+    for target in [5000000, 2500000, 781250, 781249] {
+        clock::interface(&rt, target)?;
+    }
+    for target in [7936508, 7936507] {
+        clock::loopback(&rt, target)?;
+    }
+    for dual_flash in [false, true] {
+        case(&rt, Call::IoMode { dual_flash })?;
+    }
+    erase_while_busy(&rt, 0x0003_0000)?;
+    lists::cases(&rt)
 }
 
-fn case(call: u32, addr: u32, length: usize) {
-    print::title(call, addr, length);
-    show(false, call, addr, length);
+fn case(rt: &(impl Print + AllocGlobal), call: Call) -> io::Result<()> {
+    print!(rt; "{call}")?;
+    show(rt, call, call::at_rest())
 }
 
 // The driver has a call at hand that has not ended: the next one is not begun.
-fn erase_while_busy(addr: u32) {
-    print::title(call::ERASE, addr, 0);
-    printing::text(b" while a write enable is under way");
-    show(true, call::ERASE, addr, 0);
+fn erase_while_busy(rt: &(impl Print + AllocGlobal), addr: u32) -> io::Result<()> {
+    let call = Call::Erase { addr };
+    print!(rt; "{call} while a write enable is under way")?;
+    show(rt, call, call::under_way())
 }
 
-// A call on the replies of a prompt device.
-fn show(busy: bool, call: u32, addr: u32, length: usize) {
-    let mut replies = [0u32; 256];
-    device::replies(call, addr, length, &mut replies);
-    let mut buffer = [memory::UNTOUCHED_BYTE; memory::BUFFER];
-    let mut log = [memory::UNTOUCHED; LOG];
-    let end = call::run(busy, call, addr, length, &mut buffer, &mut log, &replies);
-    result(call, end);
-    left(&buffer, &log, end.used);
-}
-
-// The answer, the bytes that `write_pages` counts, and the used counts.
-fn result(call: u32, end: Ended) {
-    print::answer(end.answer);
-    if call == call::WRITE_PAGES {
-        print::labelled(print::PROGRAMMED, end.counted);
+// A call on the replies of a prompt device: the answer, the bytes that `write_pages` counts, the used counts, and
+// what the memory holds afterwards.
+fn show(
+    rt: &(impl Print + AllocGlobal),
+    call: Call,
+    driver: QspiSpansionS25Fl256SIoMode,
+) -> io::Result<()> {
+    let replies: [u32; REPLIES] = device::replies(call);
+    let mut buffer = [UNTOUCHED_BYTE; BUFFER];
+    let mut log = [UNTOUCHED; LOG];
+    let driven = call.run(driver, &mut buffer, &mut log, &replies);
+    let progress = state::answer_so_far(driven.driver.state);
+    print!(rt; ": {}", Answered(driven.answer))?;
+    if let Call::WritePages { .. } = call {
+        print!(rt; ", programmed {}", progress.counted)?;
     }
-    print::labelled(print::USED, end.used);
-    print::labelled(print::REPLIES, end.replies);
-}
-
-// What the memory holds afterwards.
-fn left(buffer: &[u8], log: &[u32], used: usize) {
-    print::changed(0, memory::changed(log));
-    print::changed(1, memory::bytes_changed(buffer));
-    printing::text(b"\n");
-    let made = memory::front(log, used);
-    print::written(b"  sends", qspi::TX_DATA_00, made);
-    print::written(b"  A0 gets", qspi::LINEAR_QSPI_CONFIG, made);
+    print::used(rt, progress)?;
+    print::log(rt, &log)?;
+    let last = memory::last_changed(&buffer, UNTOUCHED_BYTE);
+    print::changed(rt, ", buffer", "byte", last)?;
+    println!(rt)?;
+    let made = front(&log, progress.used);
+    print::written(rt, "sends", qspi::TX_DATA_00, made)?;
+    print::written(rt, "A0 gets", qspi::LINEAR_QSPI_CONFIG, made)
 }

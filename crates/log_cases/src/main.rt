@@ -2,9 +2,8 @@
 // the entries of a log by place, and the number of accesses that lead one.
 #![tactic(auto)]
 
-use access_log::Entry;
-
-const STDOUT_FILENO: i32 = 1;
+use access_log::BadRecord;
+use std::io::{Result, Write, writer};
 
 // Three records: a write, a read, and a last one whose first word is no offset.
 const LOG: [u8; 24] = [
@@ -27,116 +26,74 @@ const NUMBERS: [u64; 6] = [
     18_446_744_073_709_551_614,
 ];
 
-fn main() {
-    let mut i: usize = 0;
-    while i < 686 {
-        case(i);
-        i += 1;
-    }
-}
-
 // First words 0 to 20F, some larger ones, the log cut at every byte, the numbers, the lengths around a
 // buffer, the places of words, and every front of four records with a refused one at each place.
-fn case(i: usize) {
-    if i < 528 {
-        return one(i);
+fn main(rt: HostRuntime) -> Result<()> {
+    for first in 0..0x210u32 {
+        record(&rt, first)?;
     }
-    if i < 532 {
-        let large = LARGE;
-        return record(large[i - 528]);
+    for first in LARGE {
+        record(&rt, first)?;
     }
-    if i < 557 {
-        return cut(i - 532);
+    for len in 0..=LOG.len() {
+        cut(&rt, len)?;
     }
-    if i < 563 {
-        let numbers = NUMBERS;
-        return numbered(numbers[i - 557]);
+    for first in NUMBERS {
+        numbered(&rt, first)?;
     }
-    if i < 580 {
-        return measure(4088 + (i - 563));
+    for len in 4088..4105usize {
+        measure(&rt, len)?;
     }
-    if i < 596 {
-        return places(i - 580);
+    for len in 0..4usize {
+        for at in [0, 1, 2, usize::MAX] {
+            place(&rt, len, at)?;
+        }
     }
-    if i < 641 {
-        return leading(i - 596, 0x102);
-    }
-    leading(i - 641, 0x200);
-}
-
-fn one(first: usize) {
-    record((first % 0x1_0000) as u32);
+    leading(&rt, 0x102)?;
+    leading(&rt, 0x200)
 }
 
 // One record with its own first word as value, upside down.
-fn record(first: u32) {
-    let log = [
-        byte(first),
-        byte(first / 0x100),
-        byte(first / 0x1_0000),
-        byte(first / 0x100_0000),
-        byte(first / 0x100_0000),
-        byte(first / 0x1_0000),
-        byte(first / 0x100),
-        byte(first),
-    ];
-    show(&log, 0);
+fn record(rt: &impl Print, first: u32) -> Result<()> {
+    let [a, b, c, d] = first.to_le_bytes();
+    show(rt, &[a, b, c, d, d, c, b, a], 0)
 }
 
-// The low byte of a word.
-fn byte(word: u32) -> u8 {
-    (word % 0x100) as u8
-}
-
-// As many bytes from the front as asked for, or all.
-fn front(log: &[u8], len: usize) -> &[u8] {
-    if len <= log.len() { &log[0..len] } else { log }
-}
-
-fn front_words(log: &[u32], len: usize) -> &[u32] {
-    if len <= log.len() { &log[0..len] } else { log }
+// As many elements from the front as asked for, or all. `trial_calls::memory` has this too, but stands above
+// the driver's calls: here `access_log` alone is named.
+fn front<T>(log: &[T], len: usize) -> &[T] {
+    log.get(..len).unwrap_or(log)
 }
 
 // The first bytes of the log: a tail of 1 to 7 bytes is a short record.
-fn cut(len: usize) {
-    let log = LOG;
-    title(b"bytes ", len as u64);
-    show(front(&log, len), 0);
+fn cut(rt: &impl Print, len: usize) -> Result<()> {
+    println!(rt; "bytes {len}")?;
+    show(rt, front(&LOG, len), 0)
 }
 
 // The third record is bad, and so has the number first + 2.
-fn numbered(first: u64) {
-    let log = LOG;
-    title(b"from ", first);
-    show(&log, first);
+fn numbered(rt: &impl Print, first: u64) -> Result<()> {
+    println!(rt; "from {first}")?;
+    show(rt, &LOG, first)
 }
 
 // The length of the text of a log of zeros, and whether the log may go on: a buffer is 512 records.
-fn measure(len: usize) {
+fn measure(rt: &impl Print, len: usize) -> Result<()> {
     let log = [0u8; 4200];
     let mut text = [0u8; 7200];
-    title(b"zeros ", len as u64);
     let rendered = access_log::render(front(&log, len), 0, &mut text);
-    io::print_decimal(STDOUT_FILENO, rendered.len as u64);
-    if rendered.more {
-        io::write_all(STDOUT_FILENO, b" and more");
+    let more = if rendered.more { " and more" } else { "" };
+    println!(rt; "zeros {len}\n{}{more}", rendered.len)
+}
+
+// A place of a log of none to three words.
+fn place(rt: &impl Print, len: usize, at: usize) -> Result<()> {
+    println!(rt; "place {at}\nwords {len}")?;
+    match access_log::entry_at(front(&[0x100, 7, 0x200], len), at) {
+        Some(Ok(_)) => println!(rt; "access"),
+        Some(Err(BadRecord { at })) => println!(rt; "bad at {at}"),
+        None => println!(rt; "end"),
     }
-    io::write_all(STDOUT_FILENO, b"\n");
-}
-
-// Four places of logs of none to three words.
-fn places(i: usize) {
-    let words = [0x100, 7, 0x200];
-    let at = place(i % 4);
-    let len = i / 4 % 4;
-    title(b"place ", at as u64);
-    title(b"words ", len as u64);
-    entry(access_log::entry_at(front_words(&words, len), at));
-}
-
-// The last place of all stands for the fourth.
-fn place(i: usize) -> usize {
-    if i == 3 { usize::MAX } else { i }
 }
 
 // Four records, of which the one at a place has a first word that is none; at place 4 all are accesses.
@@ -150,43 +107,20 @@ fn refused(at: usize, first: u32) -> [u32; 8] {
 
 // The accesses that lead none to eight words of such records: what stands behind the refused one does
 // not count.
-fn leading(i: usize, first: u32) {
-    let at = i / 9 % 5;
-    let len = i % 9;
-    if len == 0 {
-        title(b"refused at ", at as u64);
-    }
-    let words = refused(at, first);
-    let count = access_log::accesses(front_words(&words, len));
-    io::print_decimal(STDOUT_FILENO, count as u64);
-    if len == 8 {
-        io::write_all(STDOUT_FILENO, b"\n");
-    } else {
-        io::write_all(STDOUT_FILENO, b" ");
-    }
-}
-
-fn title(name: &[u8], n: u64) {
-    io::write_all(STDOUT_FILENO, name);
-    io::print_decimal(STDOUT_FILENO, n);
-    io::write_all(STDOUT_FILENO, b"\n");
-}
-
-fn entry(found: Entry) {
-    match found {
-        Entry::Access(_) => {
-            io::write_all(STDOUT_FILENO, b"access\n");
+fn leading(rt: &impl Print, first: u32) -> Result<()> {
+    for at in 0..5usize {
+        println!(rt; "refused at {at}")?;
+        let words = refused(at, first);
+        for len in 0..8usize {
+            print!(rt; "{} ", access_log::accesses(front(&words, len)))?;
         }
-        Entry::End => {
-            io::write_all(STDOUT_FILENO, b"end\n");
-        }
-        Entry::BadLog(at) => title(b"bad at ", at as u64),
+        println!(rt; "{}", access_log::accesses(&words))?;
     }
+    Ok(())
 }
 
-fn show(log: &[u8], first: u64) {
+fn show(rt: &impl Print, log: &[u8], first: u64) -> Result<()> {
     let mut text = [0u8; 7200];
     let rendered = access_log::render(log, first, &mut text);
-    let len = rendered.len;
-    io::write_all(STDOUT_FILENO, &text[..len]);
+    writer(rt).write_all(&text[..rendered.len])
 }

@@ -1,5 +1,5 @@
 -- The transfer at hand after so many accesses has no more bytes than they can send: four each. Assumes nothing.
-use Rattle.std.proofs.Common.{◌≡◌, ℕ, ◌+◌, ◌*◌, ◌≤◌, List, [], ◌∷◌, ◌++◌, length, length-append}
+use Rattle.std.proofs.Common.{ℕ, ◌*◌, ◌≤◌, List, [], ◌∷◌, ◌++◌, length}
 use Rattle.qspi_calls.proofs.WireOrder.{AllBytes}
 use Rattle.power_cut.specs.Observer.{Transfer, closed, opened, Observed}
 
@@ -19,6 +19,3 @@ sent_in (opened sent reply) = length sent
 pub record Within (k : ℕ) (o : Observed) : Type 0 where
   pub octets : OctetsIn o.transfer
   pub small : sent_in o.transfer ≤ 4 * k
-
-pub length_snoc : {A : Type 0} (l : List A) (x : A) → length (l ++ x ∷ []) ≡ length l + 1
-length_snoc l x = length-append l (x ∷ [])

@@ -1,5 +1,6 @@
 -- What a transfer is, told by its number of bytes and its first four, is what its bytes say. Assumes nothing.
-use Rattle.std.proofs.Common.{◌≡◌, ℕ, ◌+◌, ◌-◌, ◌%◌, ◌^◌, ◌<◌, Bool, true, false, cond, not, ◌&&◌, eqb, List, [], ◌∷◌, ◌++◌, length, get_or, take, sym, refl, ap, ◌∙◌, arith, lt-ltb, ne_eqb, eqb-true}
+use Rattle.std.specs.Prelude.{Some}
+use Rattle.std.proofs.Common.{◌≡◌, ℕ, ◌+◌, ◌-◌, ◌%◌, ◌^◌, ◌<◌, Bool, true, false, cond, not, ◌&&◌, eqb, List, [], ◌∷◌, ◌++◌, length, get_or, take, sym, refl, ap, ◌∙◌, arith, length-append, lt-ltb, ne_eqb, eqb-true}
 use Rattle.zynq7000.specs.Bits.{is_set}
 use Rattle.zedboard_bsp.specs.Words.{word_of, top_byte}
 use Rattle.zedboard_bsp.proofs.WireBytes.{read_back}
@@ -9,11 +10,11 @@ use Rattle.power_cut.specs.Controller as controller
 use Rattle.power_cut.specs.Observer.{Transfer, closed, opened, named}
 use Rattle.power_cut.specs.Observer as observer
 use Rattle.log_observer.specs.Watching.{is_status_read, is_clean, address_in, joined, commanded, raised}
-use Rattle.log_observer.specs.Shown.{doubt_of, transfer_of}
+use Rattle.log_observer.specs.Shown.{doubt_of, opened_of, transfer_of}
 use Rattle.power_cut.specs.Statement.{total}
 use Rattle.power_cut.proofs.Driver.{total_snoc}
 use Rattle.qspi_calls.proofs.WireOrder.{AllBytes}
-use Rattle.log_observer.proofs.Bounds.{OctetsIn, length_snoc}
+use Rattle.log_observer.proofs.Bounds.{OctetsIn}
 
 -- ---- page program
 
@@ -73,17 +74,17 @@ address_read : (a b c d : ℕ) → a < 256 → b < 256 → c < 256 → d < 256 �
 address_read a b c d ha hb hc hd = ap (λ (l : List ℕ). address_of (get_or l 1 0) (get_or l 2 0) (get_or l 3 0)) (read_back a b c d ha hb hc hd)
 
 -- one more in doubt
-joined_shown : (q : List Chunk) (c : Chunk) → joined (doubt_of q) c.address (length c.bytes) ≡ doubt_of (q ++ c ∷ [])
+joined_shown : (q : List Chunk) (c : Chunk) → Some (joined (doubt_of q) c.address (length c.bytes)) ≡ doubt_of (q ++ c ∷ [])
 unfolding total
 joined_shown [] c =
     let b : (0 + length c.bytes) % 2 ^ 32 ≡ total (c ∷ []) % 2 ^ 32 = omega arith in
     rw b
 joined_shown (d ∷ q) c =
-    let n : (length (d ∷ q) % 2 ^ 32 + 1) % 2 ^ 32 ≡ length (d ∷ (q ++ c ∷ [])) % 2 ^ 32 = omega (arith, length_snoc q c) in
+    let n : (length (d ∷ q) % 2 ^ 32 + 1) % 2 ^ 32 ≡ length (d ∷ (q ++ c ∷ [])) % 2 ^ 32 = omega (arith, length-append q (c ∷ [])) in
     let b : (total (d ∷ q) % 2 ^ 32 + length c.bytes) % 2 ^ 32 ≡ total (d ∷ (q ++ c ∷ [])) % 2 ^ 32 = omega (arith, total_snoc q c) in
     simp (n, b)
 
-chosen : (t : Bool) (c : Chunk) (q : List Chunk) → cond t (joined (doubt_of q) c.address (length c.bytes)) (doubt_of q) ≡ doubt_of (cond t (q ++ c ∷ []) q)
+chosen : (t : Bool) (c : Chunk) (q : List Chunk) → cond t (Some (joined (doubt_of q) c.address (length c.bytes))) (doubt_of q) ≡ doubt_of (cond t (q ++ c ∷ []) q)
 chosen true c q = joined_shown q c
 chosen false c q = refl
 
@@ -115,7 +116,7 @@ clean_cond true true b = refl
 clean_cond true false b = refl
 clean_cond false e b = refl
 
-status_shown : (sent : List ℕ) (reply : ℕ) → AllBytes sent → is_status_read (transfer_of (opened sent reply)) ≡ controller.is_status_read sent
+status_shown : (sent : List ℕ) (reply : ℕ) → AllBytes sent → is_status_read (opened_of sent reply) ≡ controller.is_status_read sent
 unfolding controller.is_status_read
 status_shown [] reply o = refl
 status_shown (a ∷ []) reply o = refl
@@ -127,5 +128,5 @@ pub clean_shown : (t : Transfer) → OctetsIn t → is_clean (transfer_of t) ≡
 unfolding observer.is_clean
 clean_shown closed o = refl
 clean_shown (opened sent reply) o =
-    clean_cond (is_status_read (transfer_of (opened sent reply))) (is_set 6 (top_byte reply)) (is_set 0 (top_byte reply))
+    clean_cond (is_status_read (opened_of sent reply)) (is_set 6 (top_byte reply)) (is_set 0 (top_byte reply))
     ∙ ap (λ (s : Bool). s && (not (is_set 6 (top_byte reply)) && not (is_set 0 (top_byte reply)))) (status_shown sent reply o)

@@ -3,7 +3,7 @@
 use Rattle.std.proofs.Common.{◌≡◌, ℕ, ◌+◌, ◌^◌, ◌<◌, ◌≤◌, List, [], ◌∷◌, ◌++◌, length, take, refl, ap, ◌∙◌, arith, length-append}
 use Rattle.zynq7000.specs.Access.{encode}
 use Rattle.qspi_operation.proofs.PointLaws.{encode_append}
-use Rattle.qspi_calls.specs.Chunks.{Chunk, chunks}
+use Rattle.qspi_calls.specs.Chunks.{Chunk}
 use Rattle.qspi_calls.proofs.WireOrder.{AllBytes}
 use Rattle.power_cut.specs.Flash.{Array, AfterCut}
 use Rattle.power_cut.specs.Controller.{Device, flash_of, Trace, Rests}
@@ -15,6 +15,7 @@ use Rattle.power_cut.proofs.Fits.{AllSound, chunks_sound}
 use Rattle.power_cut.proofs.Lands.{chunks_total}
 use Rattle.power_cut.proofs.StatementLaws.{one_over_all}
 use Rattle.power_cut.proofs.Rows.{all_bytes, power_cut}
+use Rattle.log_observer.specs.Watching.{chunks_in}
 use Rattle.log_observer.specs.Shown.{doubt_of, shown}
 use Rattle.log_observer.proofs.OfRuns.{Exact}
 
@@ -81,9 +82,9 @@ module _ {row : List Save} (r : Row row) (k : ℕ) (i : k ≤ length (row_log ro
       record { finished = omega (arith, m, n, few); bytes = omega (arith, m, few) }
 
   -- THEOREM. "at most one chunk in doubt over all of them" (document 02, U2).
-  pub one_shown : (shown seen).doubt.chunks ≤ 1
+  pub one_shown : chunks_in (shown seen).doubt ≤ 1
   one_shown = go seen.doubt (one_over_all call_by_call)
     where
-      go : (q : List Chunk) → length q ≤ 1 → (doubt_of q).chunks ≤ 1
+      go : (q : List Chunk) → length q ≤ 1 → chunks_in (doubt_of q) ≤ 1
       go [] h = omega arith
       go (c ∷ q) h = omega (arith, h)

@@ -1,5 +1,5 @@
 -- The watch of a run's log, and of a row of them, shows what the power-cut statement speaks of, at every cut point, and a run's counts are exact. Assumes nothing.
-use Rattle.std.proofs.Common.{◌≡◌, ℕ, ◌+◌, ◌^◌, ◌<◌, ◌≤◌, List, [], ◌++◌, length, take, arith}
+use Rattle.std.proofs.Common.{◌≡◌, ℕ, ◌^◌, ◌<◌, ◌≤◌, List, [], ◌++◌, length, take, arith}
 use Rattle.zynq7000.specs.Access.{encode}
 use Rattle.qspi_operation.specs.Machine.{begin, called, Makes}
 use Rattle.qspi_operation.proofs.Orders.{run_ended}

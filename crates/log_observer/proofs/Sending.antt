@@ -1,4 +1,5 @@
 -- Bytes sent one by one: their number, and the first four as a word, follow the list. Assumes nothing.
+use Rattle.std.specs.Prelude.{Option}
 use Rattle.std.proofs.Common.{◌≡◌, ℕ, ◌+◌, ◌/◌, ◌%◌, ◌^◌, ◌<◌, ◌≤◌, List, [], ◌∷◌, ◌++◌, length, take, refl, ap, ◌∙◌, append_assoc, arith, length-append, length-take, ne_eqb}
 use Rattle.zedboard_bsp.specs.Words.{word_of, bytes_of}
 use Rattle.power_cut.specs.Controller.{bytes_out}
@@ -8,7 +9,7 @@ use Rattle.log_observer.specs.Watching.{head_with, push, send_one, send_two, sen
 use Rattle.log_observer.specs.Shown.{transfer_of}
 use Rattle.qspi_calls.proofs.WireOrder.{AllBytes}
 use Rattle.power_cut.proofs.Fits.{bytes_take}
-use Rattle.log_observer.proofs.Bounds.{octets_append, OctetsIn, sent_in, length_snoc}
+use Rattle.log_observer.proofs.Bounds.{octets_append, OctetsIn, sent_in}
 
 -- the head with one more byte
 head_snoc : (sent : List ℕ) (b : ℕ) → AllBytes sent → b < 256
@@ -32,18 +33,8 @@ head_snoc (x ∷ y ∷ z ∷ t ∷ sent) b o h =
 push_snoc : (sent : List ℕ) (reply b : ℕ) → AllBytes sent → b < 256 → length sent + 1 < 2 ^ 32
     → push (transfer_of (opened sent reply)) b ≡ transfer_of (opened (sent ++ b ∷ []) reply)
 push_snoc sent reply b o h m =
-    let n : (length sent + 1) % 2 ^ 32 ≡ length (sent ++ b ∷ []) = omega (arith, length_snoc sent b) in
+    let n : (length sent + 1) % 2 ^ 32 ≡ length (sent ++ b ∷ []) = omega (arith, length-append sent (b ∷ [])) in
     simp (head_snoc sent b o h, n)
-
--- a list with two more, one by one
-two_more : (l : List ℕ) (a b : ℕ) → (l ++ a ∷ []) ++ b ∷ [] ≡ l ++ a ∷ b ∷ []
-two_more l a b = append_assoc l (a ∷ []) (b ∷ [])
-
-three_more : (l : List ℕ) (a b c : ℕ) → (l ++ a ∷ b ∷ []) ++ c ∷ [] ≡ l ++ a ∷ b ∷ c ∷ []
-three_more l a b c = append_assoc l (a ∷ b ∷ []) (c ∷ [])
-
-four_more : (l : List ℕ) (a b c d : ℕ) → (l ++ a ∷ b ∷ c ∷ []) ++ d ∷ [] ≡ l ++ a ∷ b ∷ c ∷ d ∷ []
-four_more l a b c d = append_assoc l (a ∷ b ∷ c ∷ []) (d ∷ [])
 
 -- ---- words of one to four bytes
 
@@ -60,7 +51,7 @@ module _ (sent : List ℕ) (reply v : ℕ) (o : AllBytes sent) (m : length sent 
   abbrev b3 : ℕ
   b3 = v / 2 ^ 24 % 256
 
-  abbrev open_with : List ℕ → declared.Transfer
+  abbrev open_with : List ℕ → Option declared.Transfer
   open_with l = transfer_of (opened l reply)
 
   sent_one : send_one (open_with sent) v ≡ open_with (sent ++ b0 ∷ [])
@@ -70,21 +61,21 @@ module _ (sent : List ℕ) (reply v : ℕ) (o : AllBytes sent) (m : length sent 
   sent_two =
       let e : push (open_with (sent ++ b0 ∷ [])) b1 ≡ open_with ((sent ++ b0 ∷ []) ++ b1 ∷ []) =
       push_snoc (sent ++ b0 ∷ []) reply b1 (octets_append sent (b0 ∷ []) o (omega arith, tt)) (omega arith) (omega (arith, length-append sent (b0 ∷ []))) in
-      ap (λ (t : declared.Transfer). push t b1) sent_one ∙ (e ∙ ap open_with (two_more sent b0 b1))
+      ap (λ (t : Option declared.Transfer). push t b1) sent_one ∙ (e ∙ ap open_with (append_assoc sent (b0 ∷ []) (b1 ∷ [])))
 
   sent_three : send_three (open_with sent) v ≡ open_with (sent ++ b0 ∷ b1 ∷ b2 ∷ [])
   sent_three =
       let e : push (open_with (sent ++ b0 ∷ b1 ∷ [])) b2 ≡ open_with ((sent ++ b0 ∷ b1 ∷ []) ++ b2 ∷ []) =
       push_snoc (sent ++ b0 ∷ b1 ∷ []) reply b2 (octets_append sent (b0 ∷ b1 ∷ []) o (omega arith, (omega arith, tt))) (omega arith)
       (omega (arith, length-append sent (b0 ∷ b1 ∷ []))) in
-      ap (λ (t : declared.Transfer). push t b2) sent_two ∙ (e ∙ ap open_with (three_more sent b0 b1 b2))
+      ap (λ (t : Option declared.Transfer). push t b2) sent_two ∙ (e ∙ ap open_with (append_assoc sent (b0 ∷ b1 ∷ []) (b2 ∷ [])))
 
   sent_four : send_four (open_with sent) v ≡ open_with (sent ++ b0 ∷ b1 ∷ b2 ∷ b3 ∷ [])
   sent_four =
       let e : push (open_with (sent ++ b0 ∷ b1 ∷ b2 ∷ [])) b3 ≡ open_with ((sent ++ b0 ∷ b1 ∷ b2 ∷ []) ++ b3 ∷ []) =
       push_snoc (sent ++ b0 ∷ b1 ∷ b2 ∷ []) reply b3 (octets_append sent (b0 ∷ b1 ∷ b2 ∷ []) o (omega arith, (omega arith, (omega arith, tt)))) (omega arith)
       (omega (arith, length-append sent (b0 ∷ b1 ∷ b2 ∷ []))) in
-      ap (λ (t : declared.Transfer). push t b3) sent_three ∙ (e ∙ ap open_with (four_more sent b0 b1 b2 b3))
+      ap (λ (t : Option declared.Transfer). push t b3) sent_three ∙ (e ∙ ap open_with (append_assoc sent (b0 ∷ b1 ∷ b2 ∷ []) (b3 ∷ [])))
 
 -- ---- in or outside a transfer
 

@@ -1,11 +1,11 @@
 -- The watch by numbers shows what the lists say, of every log with fewer than 2^30 accesses: so many send fewer than 2^32 bytes in a transfer.
 -- Assumes nothing.
+use Rattle.std.specs.Prelude.{Option, Some, Ok}
 use Rattle.std.proofs.Common.{◌≡◌, ℕ, zero, suc, ◌+◌, ◌-◌, ◌%◌, ◌^◌, ◌<◌, ◌≤◌, Bool, true, false, eqb, List, [], ◌∷◌, ◌++◌, length, get_or, take, drop, sym, refl, ap, ◌∙◌, append_assoc, arith, length-append, length-take, ne_eqb, eqb-true}
 use Rattle.zynq7000.specs.Access.{first_word, value_word, encode, Loggable}
 use Rattle.zynq7000.specs.Bits.{is_set}
 use Rattle.zynq7000.specs.declared.qspi.Access.{Access}
 use Rattle.zynq7000.specs.declared.qspi.Access.TheVariants as access
-use Rattle.access_log.specs.declared.Entry.TheVariants as entry
 use Rattle.access_log.specs.Log.{entry_at}
 use Rattle.access_log.proofs.RoundTrip.{reads_back}
 use Rattle.qspi_calls.specs.Chunks.{Chunk}
@@ -15,7 +15,7 @@ use Rattle.power_cut.specs.Observer as observer
 use Rattle.power_cut.specs.Statement.{total}
 use Rattle.log_observer.specs.declared.Transfer as declared
 use Rattle.log_observer.specs.declared.Watch.{Watch}
-use Rattle.log_observer.specs.Watching.{take_reply, wrote, has_read, watched, watch_from, watch_of}
+use Rattle.log_observer.specs.Watching.{chunks_in, bytes_in, take_reply, wrote, has_read, watched, watch_from, watch_of}
 use Rattle.log_observer.specs.Watching as watching
 use Rattle.log_observer.specs.Shown.{doubt_of, transfer_of, shown}
 use Rattle.power_cut.proofs.Driver.{total_append}
@@ -80,11 +80,11 @@ register_at_lem o = by-config (eqb o 0x00) refl
 
 -- ---- a transfer closes
 
-chunks_shown : (k q : List Chunk) → (length k % 2 ^ 32 + (doubt_of q).chunks) % 2 ^ 32 ≡ length (k ++ q) % 2 ^ 32
+chunks_shown : (k q : List Chunk) → (length k % 2 ^ 32 + chunks_in (doubt_of q)) % 2 ^ 32 ≡ length (k ++ q) % 2 ^ 32
 chunks_shown k [] = omega (arith, length-append k [])
 chunks_shown k (c ∷ q) = omega (arith, length-append k (c ∷ q))
 
-bytes_shown : (k q : List Chunk) → (total k % 2 ^ 32 + (doubt_of q).bytes) % 2 ^ 32 ≡ total (k ++ q) % 2 ^ 32
+bytes_shown : (k q : List Chunk) → (total k % 2 ^ 32 + bytes_in (doubt_of q)) % 2 ^ 32 ≡ total (k ++ q) % 2 ^ 32
 unfolding total
 bytes_shown k [] = omega (arith, total_append k [])
 bytes_shown k (c ∷ q) = omega (arith, total_append k (c ∷ q))
@@ -109,7 +109,7 @@ module _ (k : ℕ) (o : Observed) (m : Within k o) (few : k < 2 ^ 30 - 1) where
   unfolding see seen_write config_written register_at
   configured_shown v = simp (raised_shown o.up (is_set 10 v) t o.doubt m.octets)
 
-  transfer_shown : (u : Transfer) (x : declared.Transfer) → x ≡ transfer_of u → watching.with_transfer (shown o) x ≡ shown (with_transfer u o)
+  transfer_shown : (u : Transfer) (x : Option declared.Transfer) → x ≡ transfer_of u → watching.with_transfer (shown o) x ≡ shown (with_transfer u o)
   transfer_shown u x e = rw e
 
   room : sent_in t + 4 < 2 ^ 32
@@ -210,14 +210,14 @@ module _ (k : ℕ) (o : Observed) (m : Within k o) where
 -- from a place on, these accesses stand in the log
 abbrev Holds : List ℕ → ℕ → List Access → Type 0
 Holds log at [] = Unit {0}
-Holds log at (a ∷ l) = (entry_at log at ≡ entry.Access a) × Holds log (suc at) l
+Holds log at (a ∷ l) = (entry_at log at ≡ Some (Ok a)) × Holds log (suc at) l
 
 module _ (log : List ℕ) where
-  holds : (d : Access) (l : List Access) (at : ℕ) → ((j : ℕ) → j < length l → entry_at log (at + j) ≡ entry.Access (get_or l j d)) → Holds log at l
+  holds : (d : Access) (l : List Access) (at : ℕ) → ((j : ℕ) → j < length l → entry_at log (at + j) ≡ Some (Ok (get_or l j d))) → Holds log at l
   holds d [] at f = tt
   holds d (a ∷ l) at f =
       let here : at ≡ at + 0 = omega arith in
-      let onward : (j : ℕ) → j < length l → entry_at log (suc at + j) ≡ entry.Access (get_or l j d) =
+      let onward : (j : ℕ) → j < length l → entry_at log (suc at + j) ≡ Some (Ok (get_or l j d)) =
       λ j h. (let e : suc at + j ≡ at + suc j = omega arith in ap (λ (n : ℕ). entry_at log n) e ∙ f (suc j) (omega arith)) in
       (ap (λ (n : ℕ). entry_at log n) here ∙ f 0 (omega arith), holds d l (suc at) onward)
 
@@ -236,7 +236,7 @@ unfolding watch_of observed total
 shows_observed l rest ok few =
     let d : Access = access.Read 0 0 in
     let begin : Within 0 observer.fresh = record { octets = tt; small = omega arith } in
-    let stands : (j : ℕ) → j < length l → entry_at (encode l ++ rest) (0 + j) ≡ entry.Access (get_or l j d) =
+    let stands : (j : ℕ) → j < length l → entry_at (encode l ++ rest) (0 + j) ≡ Some (Ok (get_or l j d)) =
     λ j h. (let e : 0 + j ≡ j = omega arith in ap (λ (n : ℕ). entry_at (encode l ++ rest) n) e ∙ reads_back d rest l j ok h) in
     follows (encode l ++ rest) l 0 observer.fresh (holds (encode l ++ rest) d l 0 stands) begin (omega arith)
 

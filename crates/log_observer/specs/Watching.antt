@@ -1,32 +1,25 @@
 -- What a log shows by itself, with numbers for lists: document 01, "The flash, as defined here". specs/Observer of power_cut says it over the
 -- bytes themselves, to be read beside that section, and proofs/Shows here shows that the two agree.
+use Rattle.std.specs.Prelude.{Option, Some, None, Ok, Err}
 use Rattle.std.specs.Prelude.{ℕ, zero, suc, ◌+◌, ◌-◌, ◌*◌, ◌/◌, ◌%◌, ◌^◌, Bool, true, false, cond, not, List, ◌==◌, nat_lt}
 use Rattle.zynq7000.specs.Bits.{is_set}
 use Rattle.zynq7000.specs.declared.qspi.Access.{Access}
 use Rattle.zynq7000.specs.declared.qspi.Access.TheVariants as access
 use Rattle.zedboard_bsp.specs.Words.{top_byte}
-use Rattle.access_log.specs.declared.Entry.{Entry}
-use Rattle.access_log.specs.declared.Entry.TheVariants as entry
-use Rattle.access_log.specs.Log.{entry_at}
+use Rattle.access_log.specs.Log.{Entry, entry_at}
 use Rattle.log_observer.specs.declared.Doubt.{Doubt}
 use Rattle.log_observer.specs.declared.Transfer.{Transfer}
 use Rattle.log_observer.specs.declared.Watch.{Watch}
 
--- ---- no chunk, no transfer, nothing seen
-
-abbrev pub no_doubt : Doubt
-no_doubt = record { there = false; address = 0; length = 0; chunks = 0; bytes = 0 }
-
-abbrev pub not_open : Transfer
-not_open = record { active = false; sent = 0; head = 0; reply = 0 }
+-- ---- nothing sent, nothing seen
 
 -- before the first RX word is read it shows busy
 abbrev pub just_open : Transfer
-just_open = record { active = true; sent = 0; head = 0; reply = 0x0100_0000 }
+just_open = record { sent = 0; head = 0; reply = 0x0100_0000 }
 
 -- "At the start of a run bits 10, 14 and 15 are set": chip select is high
 abbrev pub fresh : Watch
-fresh = record { transfer = not_open; up = true; doubt = no_doubt; finished = 0; bytes = 0 }
+fresh = record { transfer = None; up = true; doubt = None; finished = 0; bytes = 0 }
 
 -- ---- bytes sent: "Words are written low byte first" ("One transfer, access by access")
 
@@ -39,43 +32,46 @@ head_with head sent b =
     (cond (sent == 3) ((head + b * 0x100_0000) % 2 ^ 32) head)))
 
 abbrev pub pushed : Transfer → ℕ → Transfer
-pushed t b = record { active = true; sent = (t.sent + 1) % 2 ^ 32; head = head_with t.head t.sent b; reply = t.reply }
+pushed t b = record { sent = (t.sent + 1) % 2 ^ 32; head = head_with t.head t.sent b; reply = t.reply }
 
-abbrev pub push : Transfer → ℕ → Transfer
-push t b = cond t.active (pushed t b) t
+abbrev pub push : Option Transfer → ℕ → Option Transfer
+push None b = None
+push (Some t) b = Some (pushed t b)
 
 -- "TX data (four bytes) 1C, .. TX data of one, two, three bytes 80, 84, 88" ("Modules of the flash path", 1)
-abbrev pub send_one : Transfer → ℕ → Transfer
+abbrev pub send_one : Option Transfer → ℕ → Option Transfer
 send_one t w = push t (w % 0x100)
 
-abbrev pub send_two : Transfer → ℕ → Transfer
+abbrev pub send_two : Option Transfer → ℕ → Option Transfer
 send_two t w = push (send_one t w) (w / 0x100 % 0x100)
 
-abbrev pub send_three : Transfer → ℕ → Transfer
+abbrev pub send_three : Option Transfer → ℕ → Option Transfer
 send_three t w = push (send_two t w) (w / 0x1_0000 % 0x100)
 
-abbrev pub send_four : Transfer → ℕ → Transfer
+abbrev pub send_four : Option Transfer → ℕ → Option Transfer
 send_four t w = push (send_three t w) (w / 0x100_0000 % 0x100)
 
 abbrev pub taken : Transfer → ℕ → Transfer
-taken t v = record { active = true; sent = t.sent; head = t.head; reply = v }
+taken t v = record { sent = t.sent; head = t.head; reply = v }
 
-abbrev pub take_reply : Transfer → ℕ → Transfer
-take_reply t v = cond t.active (taken t v) t
+abbrev pub take_reply : Option Transfer → ℕ → Option Transfer
+take_reply None v = None
+take_reply (Some t) v = Some (taken t v)
 
 -- ---- what a transfer is
 
 -- "Page program (02)"; "A program command without data changes nothing"
 abbrev pub is_program : Transfer → Bool
-is_program t = cond t.active (cond (nat_lt 4 t.sent) (t.head % 0x100 == 0x02) false) false
+is_program t = cond (nat_lt 4 t.sent) (t.head % 0x100 == 0x02) false
 
 -- "status read (05)"
 abbrev pub is_status_read : Transfer → Bool
-is_status_read t = cond t.active (cond (nat_lt 1 t.sent) (t.head % 0x100 == 0x05) false) false
+is_status_read t = cond (nat_lt 1 t.sent) (t.head % 0x100 == 0x05) false
 
 -- "ended clean in the log (error bit and bit 0 clear)"
-abbrev pub is_clean : Transfer → Bool
-is_clean t = cond (is_status_read t) (cond (is_set 6 (top_byte t.reply)) false (not (is_set 0 (top_byte t.reply)))) false
+abbrev pub is_clean : Option Transfer → Bool
+is_clean None = false
+is_clean (Some t) = cond (is_status_read t) (cond (is_set 6 (top_byte t.reply)) false (not (is_set 0 (top_byte t.reply)))) false
 
 -- the address behind the command, high byte first
 abbrev pub address_in : ℕ → ℕ
@@ -83,46 +79,56 @@ address_in head = head / 0x100 % 0x100 * 0x1_0000 + head / 0x1_0000 % 0x100 * 0x
 
 -- ---- chunks in doubt
 
+-- their number and their bytes
+abbrev pub chunks_in : Option Doubt → ℕ
+chunks_in None = 0
+chunks_in (Some d) = d.chunks
+
+abbrev pub bytes_in : Option Doubt → ℕ
+bytes_in None = 0
+bytes_in (Some d) = d.bytes
+
 -- the first of them by its place
-abbrev pub placed : Bool → Doubt → ℕ → ℕ → Doubt
-placed true d a n = d
-placed false d a n = record { there = true; address = a; length = n; chunks = d.chunks; bytes = d.bytes }
+abbrev pub placed : Option Doubt → ℕ → ℕ → Doubt
+placed None a n = record { address = a; length = n; chunks = 0; bytes = 0 }
+placed (Some d) a n = d
 
 abbrev pub with_one : Doubt → ℕ → Doubt
-with_one d n = record { there = d.there; address = d.address; length = d.length; chunks = (d.chunks + 1) % 2 ^ 32; bytes = (d.bytes + n) % 2 ^ 32 }
+with_one d n = record { address = d.address; length = d.length; chunks = (d.chunks + 1) % 2 ^ 32; bytes = (d.bytes + n) % 2 ^ 32 }
 
 -- one more, of so many bytes at an address
-abbrev pub joined : Doubt → ℕ → ℕ → Doubt
-joined d a n = placed d.there (with_one d n) a n
+abbrev pub joined : Option Doubt → ℕ → ℕ → Doubt
+joined d a n = with_one (placed d a n) n
 
 -- the chunk of a page program command; other commands leave those there were
-abbrev pub commanded : Transfer → Doubt → Doubt
-commanded t d = cond (is_program t) (joined d (address_in t.head) (t.sent - 4)) d
+abbrev pub commanded : Option Transfer → Option Doubt → Option Doubt
+commanded None d = d
+commanded (Some t) d = cond (is_program t) (Some (joined d (address_in t.head) (t.sent - 4))) d
 
 -- "it is in doubt from the rising chip select of its page program command"
-abbrev pub raised : Bool → Bool → Transfer → Doubt → Doubt
+abbrev pub raised : Bool → Bool → Option Transfer → Option Doubt → Option Doubt
 raised was is t d = cond was d (cond is (commanded t d) d)
 
 -- ---- what an access adds
 
-abbrev pub with_transfer : Watch → Transfer → Watch
+abbrev pub with_transfer : Watch → Option Transfer → Watch
 with_transfer w t = record { transfer = t; up = w.up; doubt = w.doubt; finished = w.finished; bytes = w.bytes }
 
 -- "finished once its status loop has ended clean in the log .., the closing of the last status transfer included"
 abbrev pub finish : Watch → Watch
 finish w = record {
-  transfer = not_open;
+  transfer = None;
   up = w.up;
-  doubt = no_doubt;
-  finished = (w.finished + w.doubt.chunks) % 2 ^ 32;
-  bytes = (w.bytes + w.doubt.bytes) % 2 ^ 32;
+  doubt = None;
+  finished = (w.finished + chunks_in w.doubt) % 2 ^ 32;
+  bytes = (w.bytes + bytes_in w.doubt) % 2 ^ 32;
 }
 
 abbrev pub closed : Watch → Watch
-closed w = cond (is_clean w.transfer) (finish w) (with_transfer w not_open)
+closed w = cond (is_clean w.transfer) (finish w) (with_transfer w None)
 
 abbrev pub enabled : Watch → ℕ → Watch
-enabled w v = cond (v == 0) (closed w) (with_transfer w just_open)
+enabled w v = cond (v == 0) (closed w) (with_transfer w (Some just_open))
 
 -- "chip select is low while bit 10 is clear"
 abbrev pub configured : Watch → ℕ → Watch
@@ -155,9 +161,9 @@ watched w (access.Write o v) = wrote w o v
 -- ---- a log
 
 abbrev pub onward : Entry → Watch → (Watch → Watch) → Watch
-onward (entry.Access a) w more = more (watched w a)
-onward entry.End w more = w
-onward (entry.BadLog at) w more = w
+onward (Some (Ok a)) w more = more (watched w a)
+onward None w more = w
+onward (Some (Err e)) w more = w
 
 -- so many records from a place on, until the log ends or a record is no access
 unfoldable pub watch_from : ℕ → List ℕ → ℕ → Watch → Watch

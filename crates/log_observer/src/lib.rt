@@ -4,19 +4,18 @@
 #![tactic(auto)]
 
 ghost use Rattle.std.specs.Prelude.{◌≡◌, ◌-◌};
-ghost use Rattle.log_observer.specs.Watching.{no_doubt, not_open, just_open, fresh, head_with, push, send_one, send_two, send_three, send_four, take_reply, is_program, is_status_read, is_clean, address_in, joined, commanded, raised, with_transfer, finish, closed, enabled, configured, wrote, has_read, watched, watch_of};
+ghost use Rattle.log_observer.specs.Watching.{just_open, fresh, head_with, push, send_one, send_two, send_three, send_four, take_reply, is_program, is_status_read, is_clean, address_in, chunks_in, bytes_in, joined, commanded, raised, with_transfer, finish, closed, enabled, configured, wrote, has_read, watched, watch_of};
 
-use access_log::{Entry, entry_at};
+use access_log::entry_at;
 use zedboard_bsp::qspi_spansion::{StatusRegister1, words};
 use zynq7000::qspi::{Access, Config};
 use zynq7000::{bits, qspi};
 
-// The chunks in doubt: the first of them by its place in the flash, or none; how many they are, and
-// their bytes (both modulo 2^32). Of a run of `write_pages` there is never a second one, nor of a row of
-// them while the flash reports no error.
+// The chunks in doubt: the first of them by its place in the flash; how many they are, and their bytes
+// (both modulo 2^32). Of a run of `write_pages` there is never a second one, nor of a row of them while
+// the flash reports no error.
 #[derive(Clone, Copy)]
 pub struct Doubt {
-    pub there: bool,
     pub address: u32,
     pub length: u32,
     pub chunks: u32,
@@ -27,19 +26,18 @@ pub struct Doubt {
 // 2^32), the first four of them with the first lowest, and the RX word read last.
 #[derive(Clone, Copy)]
 pub struct Transfer {
-    pub active: bool,
     pub sent: u32,
     pub head: u32,
     pub reply: u32,
 }
 
-// What is seen so far: the transfer at hand; whether chip select is high; the chunks in doubt; how many
-// chunks are finished, and their bytes (both modulo 2^32).
+// What is seen so far: the transfer at hand, if any; whether chip select is high; the chunks in doubt, if
+// any; how many chunks are finished, and their bytes (both modulo 2^32).
 #[derive(Clone, Copy)]
 pub struct Watch {
-    pub transfer: Transfer,
+    pub transfer: Option<Transfer>,
     pub up: bool,
-    pub doubt: Doubt,
+    pub doubt: Option<Doubt>,
     pub finished: u32,
     pub bytes: u32,
 }
@@ -48,34 +46,10 @@ pub struct Watch {
 // clean that nobody read.
 const UNREAD: u32 = 0x0100_0000;
 
-fn no_doubt() -> Doubt
-    ensures doubt { result ≡ no_doubt }
-{
-    Doubt {
-        there: false,
-        address: 0,
-        length: 0,
-        chunks: 0,
-        bytes: 0,
-    }
-}
-
-fn not_open() -> Transfer
-    ensures transfer { result ≡ not_open }
-{
-    Transfer {
-        active: false,
-        sent: 0,
-        head: 0,
-        reply: 0,
-    }
-}
-
 fn just_open() -> Transfer
     ensures transfer { result ≡ just_open }
 {
     Transfer {
-        active: true,
         sent: 0,
         head: 0,
         reply: UNREAD,
@@ -87,204 +61,166 @@ fn head_with(head: u32, sent: u32, byte: u8) -> u32
     ensures head { result ≡ head_with head sent byte }
 {
     let one = byte as u32;
-    if sent == 0 {
-        return one;
+    match sent {
+        0 => one,
+        1 => head.wrapping_add(one * 0x100),
+        2 => head.wrapping_add(one * 0x1_0000),
+        3 => head.wrapping_add(one * 0x100_0000),
+        _ => head,
     }
-    if sent == 1 {
-        return std::num::wrapping_add_u32(head, one * 0x100);
-    }
-    if sent == 2 {
-        return std::num::wrapping_add_u32(head, one * 0x1_0000);
-    }
-    if sent == 3 {
-        return std::num::wrapping_add_u32(head, one * 0x100_0000);
-    }
-    head
 }
 
 // A byte is sent. Outside a transfer it belongs to none.
-fn push(t: Transfer, byte: u8) -> Transfer
+fn push(t: Option<Transfer>, byte: u8) -> Option<Transfer>
     ensures transfer { result ≡ push t byte }
 {
-    if t.active {
-        Transfer {
-            active: true,
-            sent: std::num::wrapping_add_u32(t.sent, 1),
-            head: head_with(t.head, t.sent, byte),
-            reply: t.reply,
-        }
-    } else {
-        t
-    }
+    t.map(|t| Transfer {
+        sent: t.sent.wrapping_add(1),
+        head: head_with(t.head, t.sent, byte),
+        ..t
+    })
 }
 
-// A word of one to four bytes is sent, low byte first.
-fn send_one(t: Transfer, word: u32) -> Transfer
+// A word of one to four bytes is sent, low byte first: each function is the one before it and a byte more,
+// which no count of bytes would say more plainly.
+fn send_one(t: Option<Transfer>, word: u32) -> Option<Transfer>
     ensures transfer { result ≡ send_one t word }
 {
-    push(t, (word % 0x100) as u8)
+    push(t, word.to_le_bytes()[0])
 }
 
-fn send_two(t: Transfer, word: u32) -> Transfer
+fn send_two(t: Option<Transfer>, word: u32) -> Option<Transfer>
     ensures transfer { result ≡ send_two t word }
 {
-    push(send_one(t, word), (word / 0x100 % 0x100) as u8)
+    push(send_one(t, word), word.to_le_bytes()[1])
 }
 
-fn send_three(t: Transfer, word: u32) -> Transfer
+fn send_three(t: Option<Transfer>, word: u32) -> Option<Transfer>
     ensures transfer { result ≡ send_three t word }
 {
-    push(send_two(t, word), (word / 0x1_0000 % 0x100) as u8)
+    push(send_two(t, word), word.to_le_bytes()[2])
 }
 
-fn send_four(t: Transfer, word: u32) -> Transfer
+fn send_four(t: Option<Transfer>, word: u32) -> Option<Transfer>
     ensures transfer { result ≡ send_four t word }
 {
-    push(send_three(t, word), (word / 0x100_0000 % 0x100) as u8)
+    push(send_three(t, word), word.to_le_bytes()[3])
 }
 
 // An RX word is read.
-fn take_reply(t: Transfer, reply: u32) -> Transfer
+fn take_reply(t: Option<Transfer>, reply: u32) -> Option<Transfer>
     ensures transfer { result ≡ take_reply t reply }
 {
-    if t.active {
-        Transfer {
-            active: true,
-            sent: t.sent,
-            head: t.head,
-            reply,
-        }
-    } else {
-        t
-    }
+    t.map(|t| Transfer { reply, ..t })
 }
 
 // Whether the transfer is a page program with data: the command, three bytes of address, and more.
 fn is_program(t: Transfer) -> bool
     ensures program { result ≡ is_program t }
 {
-    if t.active {
-        if 4 < t.sent {
-            return t.head % 0x100 == 0x02;
-        }
-    }
-    false
+    4 < t.sent && t.head % 0x100 == 0x02
 }
 
 // Whether the top byte of the reply is the status: 05 was sent first, and a byte after it.
 fn is_status_read(t: Transfer) -> bool
     ensures status { result ≡ is_status_read t }
 {
-    if t.active {
-        if 1 < t.sent {
-            return t.head % 0x100 == 0x05;
-        }
-    }
-    false
+    1 < t.sent && t.head % 0x100 == 0x05
 }
 
 // Whether it is a status transfer with error bit and bit 0 clear.
-fn is_clean(t: Transfer) -> bool
+fn is_clean(t: Option<Transfer>) -> bool
     ensures clean { result ≡ is_clean t }
 {
-    let status = words::top_byte(t.reply);
-    if is_status_read(t) {
-        if StatusRegister1(status).programming_error() {
-            return false;
-        }
-        return !StatusRegister1(status).write_in_progress();
-    }
-    false
+    let Some(t) = t else { return false };
+    let status = StatusRegister1(words::top_byte(t.reply));
+    is_status_read(t) && !status.programming_error() && !status.write_in_progress()
 }
 
 // The address behind the command, high byte first.
 fn address_in(head: u32) -> u32
     ensures address { result ≡ address_in head }
 {
-    head / 0x100 % 0x100 * 0x1_0000 + head / 0x1_0000 % 0x100 * 0x100 + head / 0x100_0000 % 0x100
+    let [_, high, middle, low] = head.to_le_bytes();
+    u32::from_be_bytes([0, high, middle, low])
 }
 
 // The bytes behind command and address.
 fn data_length(sent: u32) -> u32
     ensures length { result ≡ sent - 4 }
 {
-    if 4 < sent { sent - 4 } else { 0 }
+    sent.saturating_sub(4)
+}
+
+// How many chunks are in doubt.
+fn chunks_in(doubt: Option<Doubt>) -> u32
+    ensures chunks { result ≡ chunks_in doubt }
+{
+    doubt.map_or(0, |doubt| doubt.chunks)
+}
+
+// Their bytes.
+fn bytes_in(doubt: Option<Doubt>) -> u32
+    ensures bytes { result ≡ bytes_in doubt }
+{
+    doubt.map_or(0, |doubt| doubt.bytes)
 }
 
 // One more in doubt.
-fn joined(doubt: Doubt, address: u32, length: u32) -> Doubt
+fn joined(doubt: Option<Doubt>, address: u32, length: u32) -> Doubt
     ensures doubt { result ≡ joined doubt address length }
 {
-    let chunks = std::num::wrapping_add_u32(doubt.chunks, 1);
-    let bytes = std::num::wrapping_add_u32(doubt.bytes, length);
-    if doubt.there {
-        Doubt {
-            there: true,
-            address: doubt.address,
-            length: doubt.length,
-            chunks,
-            bytes,
-        }
-    } else {
-        Doubt {
-            there: true,
-            address,
-            length,
-            chunks,
-            bytes,
-        }
+    let before = doubt.unwrap_or(Doubt {
+        address,
+        length,
+        chunks: 0,
+        bytes: 0,
+    });
+    Doubt {
+        chunks: before.chunks.wrapping_add(1),
+        bytes: before.bytes.wrapping_add(length),
+        ..before
     }
 }
 
 // The chunk of a page program is in doubt too; other commands leave those that are.
-fn commanded(t: Transfer, doubt: Doubt) -> Doubt
+fn commanded(t: Option<Transfer>, doubt: Option<Doubt>) -> Option<Doubt>
     ensures doubt { result ≡ commanded t doubt }
 {
-    if is_program(t) {
-        joined(doubt, address_in(t.head), data_length(t.sent))
-    } else {
-        doubt
+    match t {
+        Some(t) if is_program(t) => Some(joined(doubt, address_in(t.head), data_length(t.sent))),
+        _ => doubt,
     }
 }
 
 // The chunks in doubt, where chip select was and is high or low: a page program is in doubt once it
 // rises.
-fn raised(was: bool, is: bool, t: Transfer, doubt: Doubt) -> Doubt
+fn raised(was: bool, is: bool, t: Option<Transfer>, doubt: Option<Doubt>) -> Option<Doubt>
     ensures doubt { result ≡ raised was is t doubt }
 {
-    if was {
-        return doubt;
+    if !was && is {
+        commanded(t, doubt)
+    } else {
+        doubt
     }
-    if is {
-        return commanded(t, doubt);
-    }
-    doubt
 }
 
-fn with_transfer(w: Watch, transfer: Transfer) -> Watch
+fn with_transfer(w: Watch, transfer: Option<Transfer>) -> Watch
     ensures watch { result ≡ with_transfer w transfer }
 {
-    let doubt = w.doubt;
-    Watch {
-        transfer,
-        up: w.up,
-        doubt,
-        finished: w.finished,
-        bytes: w.bytes,
-    }
+    Watch { transfer, ..w }
 }
 
 // A clean status transfer closes: what was in doubt is finished.
 fn finish(w: Watch) -> Watch
     ensures watch { result ≡ finish w }
 {
-    let doubt = w.doubt;
     Watch {
-        transfer: not_open(),
-        up: w.up,
-        doubt: no_doubt(),
-        finished: std::num::wrapping_add_u32(w.finished, doubt.chunks),
-        bytes: std::num::wrapping_add_u32(w.bytes, doubt.bytes),
+        transfer: None,
+        doubt: None,
+        finished: w.finished.wrapping_add(chunks_in(w.doubt)),
+        bytes: w.bytes.wrapping_add(bytes_in(w.doubt)),
+        ..w
     }
 }
 
@@ -295,7 +231,7 @@ fn closed(w: Watch) -> Watch
     if is_clean(w.transfer) {
         finish(w)
     } else {
-        with_transfer(w, not_open())
+        with_transfer(w, None)
     }
 }
 
@@ -306,7 +242,7 @@ fn enabled(w: Watch, value: u32) -> Watch
     if value == 0 {
         closed(w)
     } else {
-        with_transfer(w, just_open())
+        with_transfer(w, Some(just_open()))
     }
 }
 
@@ -315,47 +251,35 @@ fn configured(w: Watch, value: u32) -> Watch
     ensures watch { result ≡ configured w value }
 {
     let high = bits::is_set(value, Config::PERIPHERAL_CHIP_SELECT);
-    let transfer = w.transfer;
     Watch {
-        transfer,
         up: high,
         doubt: raised(w.up, high, w.transfer, w.doubt),
-        finished: w.finished,
-        bytes: w.bytes,
+        ..w
     }
 }
 
 fn wrote(w: Watch, offset: u8, value: u32) -> Watch
     ensures watch { result ≡ wrote w offset value }
 {
-    if offset == qspi::CONFIG {
-        return configured(w, value);
+    match offset {
+        qspi::CONFIG => configured(w, value),
+        qspi::SPI_ENABLE => enabled(w, value),
+        qspi::TX_DATA_00 => with_transfer(w, send_four(w.transfer, value)),
+        qspi::TX_DATA_01 => with_transfer(w, send_one(w.transfer, value)),
+        qspi::TX_DATA_10 => with_transfer(w, send_two(w.transfer, value)),
+        qspi::TX_DATA_11 => with_transfer(w, send_three(w.transfer, value)),
+        _ => w,
     }
-    if offset == qspi::SPI_ENABLE {
-        return enabled(w, value);
-    }
-    if offset == qspi::TX_DATA_00 {
-        return with_transfer(w, send_four(w.transfer, value));
-    }
-    if offset == qspi::TX_DATA_01 {
-        return with_transfer(w, send_one(w.transfer, value));
-    }
-    if offset == qspi::TX_DATA_10 {
-        return with_transfer(w, send_two(w.transfer, value));
-    }
-    if offset == qspi::TX_DATA_11 {
-        return with_transfer(w, send_three(w.transfer, value));
-    }
-    w
 }
 
 fn has_read(w: Watch, offset: u8, value: u32) -> Watch
     ensures watch { result ≡ has_read w offset value }
 {
     if offset == qspi::RX_DATA {
-        return with_transfer(w, take_reply(w.transfer, value));
+        with_transfer(w, take_reply(w.transfer, value))
+    } else {
+        w
     }
-    w
 }
 
 // What is seen after one more access.
@@ -373,9 +297,9 @@ fn start() -> Watch
     ensures watch { result ≡ fresh }
 {
     Watch {
-        transfer: not_open(),
+        transfer: None,
         up: true,
-        doubt: no_doubt(),
+        doubt: None,
         finished: 0,
         bytes: 0,
     }
@@ -387,15 +311,12 @@ pub fn observe(log: &[u32], accesses: usize) -> Watch
     ensures watch { result ≡ watch_of log.now accesses }
 {
     let mut watch = start();
-    let mut at: usize = 0;
-    while at < accesses {
+    for at in 0..accesses {
         match entry_at(log, at) {
-            Entry::Access(access) => {
-                watch = see(watch, access);
-                at += 1;
-            }
-            Entry::End => return watch,
-            Entry::BadLog(_) => return watch,
+            Some(Ok(access)) => watch = see(watch, access),
+            // One arm for both was tried: its proof has no name for which of the two came.
+            Some(Err(_)) => return watch,
+            None => return watch,
         }
     }
     watch

@@ -34,12 +34,10 @@ pub fn print_log<R: Read, W: Write>(input: &mut R, output: &mut W) -> Result<()>
     ensures text { OnOk result
         (PrintsLog (R.remaining input.old) (W.contents output.old) (W.contents output.new)) }
 {
-    let mut number: u64 = 0;
     for turn in 0..u64::MAX {
-        if !print_buffer(input, output, number)? {
+        if !print_buffer(input, output, turn.wrapping_mul(512))? {
             return Ok(());
         }
-        number = number.wrapping_add(512);
     }
     Ok(())
 }

@@ -4,7 +4,7 @@
 // Standard input, all numbers little-endian: how many reply words the dictionary has (two bytes, up to
 // 256), the words, and records to the end. A record is 14 bytes and a body:
 //
-//    0  kind of call, in the order of `name`
+//    0  kind of call, by `kind`
 //    1  flags, by kind
 //    2  first argument, by kind
 //    3  second argument, by kind
@@ -22,105 +22,92 @@
 // bytes or more. The stored list ends in a short record.
 #![tactic(auto)]
 
-ghost use Rattle.std.specs.Prelude.{◌≤◌, length};
+ghost use Rattle.std.specs.Prelude.{◌<◌, length, IfOk};
 
-use record::{HEADER, Record};
+use fault::Fault;
+use record::Record;
+use std::alloc::Global;
+use std::io;
+use std::io::Read;
 
 mod call;
-mod print;
+mod ended;
+mod fault;
+mod kind;
 mod record;
 
-const STDIN_FILENO: i32 = 0;
+// An input of so many bytes is none that is replayed. Reading up to it is one call of std's,
+// which a function for the programs would only rename.
+const TOO_LONG: usize = 98304;
 
-fn main() {
-    let mut input = [0u8; 98304];
-    let len = io::read_full(STDIN_FILENO, &mut input);
-    if len < 98304 {
-        list(&input[..len]);
-    } else {
-        print::bad(0);
+const MOST_WORDS: usize = 256;
+
+// What the memory holds beforehand, by `oracle/list`. `trial_calls::memory` has the same two, a crate of which
+// nothing else would be used here.
+const UNTOUCHED: u32 = 0xA5A5_5A5A;
+
+const UNTOUCHED_BYTE: u8 = 0x5A;
+
+fn main(rt: HostRuntime) -> io::Result<()> {
+    let mut input = Vec::new(rt.alloc());
+    let len = rt.stdin().take(TOO_LONG as u64).read_to_end(&mut input)?;
+    if len == TOO_LONG {
+        return bad(&rt, 0);
     }
+    list(&rt, input.as_slice())
 }
 
 // The dictionary, then the records.
-fn list(input: &[u8]) {
-    let count = record::pair_at(input, 0);
-    let from = 2 + count * 4;
-    if 256 < count {
-        return print::bad(0);
+fn list(rt: &(impl Print + AllocGlobal), input: &[u8]) -> io::Result<()> {
+    match dictionary(rt.alloc(), input) {
+        Ok((words, rest)) => records(rt, rest, words.as_slice()),
+        Err(Fault::Bad) => bad(rt, 0),
+        Err(Fault::Io(error)) => Err(error),
     }
-    if input.len() < from {
-        return print::bad(0);
-    }
-    let mut words = [0u32; 256];
-    record::words_of(&input[2..from], &mut words);
-    records(&input[from..], &words[0..count]);
 }
 
-fn records(input: &[u8], words: &[u32]) {
-    let mut at = 0;
+fn dictionary(alloc: Global, input: &[u8]) -> Result<(Vec<u32>, &[u8]), Fault> {
+    let (count, rest) = input.split_first_chunk().ok_or(Fault::Bad)?;
+    let count = usize::from(u16::from_le_bytes(*count));
+    if MOST_WORDS < count {
+        return Err(Fault::Bad);
+    }
+    let (words, rest) = rest.split_at_checked(count * 4).ok_or(Fault::Bad)?;
+    Ok((record::words(alloc, words)?, rest))
+}
+
+// No `for`: what is left is known only once a record is replayed.
+fn records(rt: &(impl Print + AllocGlobal), mut rest: &[u8], dictionary: &[u32]) -> io::Result<()> {
     let mut number = 0;
-    while at < input.len() {
-        let taken = case(number, &input[at..], words);
-        if taken == 0 {
-            return print::bad(number);
+    while !rest.is_empty() {
+        match replayed(rt, number, rest, dictionary) {
+            Ok(behind) => rest = behind,
+            Err(Fault::Bad) => return bad(rt, number),
+            Err(Fault::Io(error)) => return Err(error),
         }
-        at += taken;
         number += 1;
     }
+    Ok(())
 }
 
-// Replays the first record of the rest, and returns its length: 0 where it is bad.
-fn case(number: usize, rest: &[u8], words: &[u32]) -> usize
-    ensures within { result ≤ length rest.now }
-{
-    if rest.len() < HEADER {
-        return 0;
-    }
-    let record = record::header(rest);
-    let end = HEADER + record.body;
-    if rest.len() < end {
-        return 0;
-    }
-    if replayed(number, record, &rest[HEADER..end], words) {
-        return end;
-    }
-    0
-}
-
-// Whether the record was one.
-fn replayed(number: usize, record: Record, body: &[u8], words: &[u32]) -> bool {
-    if !record::within(record) {
-        return false;
-    }
-    let mut list = [0u32; 768];
-    let mut replies = [0u32; 1024];
-    answered(number, record, body, words, &mut list, &mut replies)
-}
-
-fn answered(
+// Replays the first record of the rest, and returns what stands behind it.
+fn replayed<'a>(
+    rt: &(impl Print + AllocGlobal),
     number: usize,
-    record: Record,
-    body: &[u8],
-    words: &[u32],
-    list: &mut [u32],
-    replies: &mut [u32],
-) -> bool {
-    if record.kind < 2 {
-        record::words_of(body, replies);
-        call::run(number, record, list, replies);
-        return true;
-    }
-    let from = record::listed(record) * 4;
-    if body.len() < from {
-        return false;
-    }
-    record::words_of(&body[0..from], list);
-    if !record::replies_of(&body[from..], words, replies) {
-        return false;
-    }
-    let entries = record::least(record::listed(record), list.len());
-    let given = record::least(body.len() - from, replies.len());
-    call::run(number, record, &list[0..entries], &replies[0..given]);
-    true
+    rest: &'a [u8],
+    dictionary: &[u32],
+) -> Result<&'a [u8], Fault>
+    ensures { IfOk result (λ behind. length behind.now < length rest.now) }
+{
+    let (record, behind) = Record::split_first(rest).ok_or(Fault::Bad)?;
+    let mut buffer = [UNTOUCHED_BYTE; call::LENGTH];
+    let mut log = [UNTOUCHED; call::ROOM];
+    let ended = call::run(rt.alloc(), record, dictionary, &mut buffer, &mut log)?;
+    ended.print(rt, number, record.kind, &log, &buffer)?;
+    Ok(behind)
+}
+
+// One line, as in `cut_cases` and `call_cases`: a crate to share it would be longer than it.
+fn bad(rt: &impl Print, number: usize) -> io::Result<()> {
+    println!(rt; "BAD {number}")
 }

@@ -5,9 +5,10 @@ use mathlib.Core.List.{List, [], ◌∷◌, head-eq_of_cons-eq, tail-eq_of_cons-
 use Prim.Native.Nat.{ℕ, ◌*◌}
 use lib.ListN.{length, take, drop}
 use lib.Seq.{take_at}
+use Rattle.std.specs.Prelude as prelude
 use Rattle.zynq7000.specs.Access.{offset_in, first_word, value_word, Aligned, encode, Loggable, record_of_words}
 use Rattle.zynq7000.specs.declared.qspi.Access.{Access}
-use Rattle.zynq7000.specs.declared.qspi.Record.TheVariants as record_of
+use Rattle.zynq7000.specs.declared.qspi.BadLog.{BadLog}
 use Rattle.zynq7000.proofs.AccessLaws.{read_words_lem}
 use Rattle.qspi_operation.specs.Machine.{Result}
 use Rattle.zynq7000.proofs.AccessLaws.{length_encode}
@@ -16,7 +17,7 @@ use Rattle.qspi_calls.specs.Promise.{ran_of, logged_of}
 pub used_words : (r : Result) (log : List ℕ) → take (ran_of r).used (logged_of r log) ≡ encode r.log
 used_words r log = take_at (encode r.log) (drop (2 * length r.log) log) (2 * length r.log) (length_encode r.log)
 
-accesses_equal : {a b : Access} → record_of.Access a ≡ record_of.Access b → a ≡ b
+accesses_equal : {a b : Access} → ◌≡◌ {A = prelude.Result Access BadLog} (prelude.Ok a) (prelude.Ok b) → a ≡ b
 accesses_equal e = cc
 
 one_access : (a b : Access) → Aligned (offset_in a) → Aligned (offset_in b) → first_word a ≡ first_word b → value_word a ≡ value_word b → a ≡ b

@@ -13,7 +13,7 @@ use Rattle.qspi_script.specs.Answer.{Answered}
 use Rattle.qspi_script.specs.declared.Status.{Status}
 use Rattle.qspi_script.specs.declared.Status.TheVariants.{Going}
 use Rattle.qspi_operation.specs.declared.Op.{Op}
-use Rattle.qspi_operation.specs.declared.Reply.{Reply}
+use Rattle.std.specs.Prelude.{Option}
 use Rattle.qspi_operation.specs.declared.Stepped.{Stepped}
 use Rattle.qspi_operation.specs.Step.{is_going}
 use Rattle.qspi_operation.specs.Machine.{State, begin, count_in, Result, halt, runs, called, replies_of, after, Makes}
@@ -145,7 +145,7 @@ module _ (o : Op) (bytes buffer log : List ℕ) {s : Stepped} {buffer₁ log₁ 
       go true e = left (changed (lending bs own) g.point g.follows e (d (ap is_going (shows (lending bs own) g.follows).status ∙ e)))
 
 -- THEOREM. A step of a save under way is a save under way, whatever it is handed, and one that is lent other memory leaves it as it is.
-pub step_saves : (o : Op) (bytes buffer log : List ℕ) (r : Reply) {s : Stepped} {buffer₁ log₁ : List ℕ} → StepFollows o bytes buffer log r s buffer₁ log₁ → KeepsSaving o bytes buffer log s.op log₁
+pub step_saves : (o : Op) (bytes buffer log : List ℕ) (r : Option ℕ) {s : Stepped} {buffer₁ log₁ : List ℕ} → StepFollows o bytes buffer log r s buffer₁ log₁ → KeepsSaving o bytes buffer log s.op log₁
 step_saves o bytes buffer log r {s} {buffer₁} {log₁} f = record {
   goes = λ a empty g.
       let p = g.point in

@@ -12,7 +12,6 @@ use borrow.Author.Tests.{eqb-true}
 use Rattle.zynq7000.specs.Access.{value_word}
 use Rattle.zynq7000.specs.Bits.{is_set}
 use Rattle.zynq7000.specs.declared.qspi.Access.{Access}
-use Rattle.zynq7000.specs.declared.qspi.Access.TheVariants as access
 use Rattle.zedboard_bsp.specs.Limits.{last_end, sector_size, longest_list, max_data_bytes_per_write, page_size, largest_chunk, address_span}
 use Rattle.zedboard_bsp.specs.Registers.{update_needed}
 use Rattle.qspi_script.specs.declared.Status.{Status}
@@ -22,8 +21,7 @@ use Rattle.qspi_operation.specs.Machine as machine
 use Rattle.qspi_operation.proofs.Orders.{run_ended}
 use Rattle.qspi_operation.proofs.Stops.{some_due, Stop, stopped}
 use Rattle.qspi_operation.proofs.Stops as stop
-use Rattle.qspi_calls.specs.declared.start.Latency.{Latency}
-use Rattle.qspi_calls.specs.declared.start.Latency.TheVariants.{AsRead, Code}
+use Rattle.std.specs.Prelude.{Option, Some, None}
 use Rattle.qspi_calls.specs.Chunks.{Chunk, chunks}
 use Rattle.qspi_calls.specs.Sectors.{first_refused, first_repeat}
 use Rattle.qspi_calls.specs.Calls as call
@@ -31,7 +29,7 @@ use Rattle.qspi_calls.proofs.Phases.{words}
 use Rattle.qspi_calls.proofs.Registers.{Call}
 use Rattle.zynq7000_hal.specs.declared.qspi.ClockConfig.{ClockConfig}
 use Rattle.qspi_calls.proofs.ProgramWords.{length_words}
-use Rattle.power_cut.specs.Flash.{Array, Flash, flash}
+use Rattle.power_cut.specs.Flash.{Array, Flash}
 use Rattle.power_cut.specs.Controller.{tx, register_at, Device, device, Silent, out, unasked, idle, after_write, effect, Gives, Trace, still, quiet, step, raises, words_left, AllOut, Rests, rests}
 use Rattle.power_cut.specs.WordsOut.{Sends, write_enable, write_disable, clear_status, read_status, read_config, read_id, read_long_id, write_status, write_registers, new, set_write_protection, erase_sector, erase_sectors, program, write_pages_call, read, AtRest, at_rest, RowOf, last, more, WordsOut}
 use Rattle.power_cut.proofs.Driver.{Phase, draining, midway, action, in_transfer_of, transfer_next_of}
@@ -216,9 +214,9 @@ new_with_lem : (quad setLatency : Bool) (latency : ℕ) (clear : Bool) → Repli
 new_with_lem quad setLatency latency clear =
     either (ltb 3 latency) at_end (once (one_byte _) (λ rs. either (quad || (setLatency || clear)) (configures quad setLatency latency clear) at_end))
 
-new_latency_lem : (l : Latency) (quad clear : Bool) → Replied (call.new_latency l quad clear)
-new_latency_lem AsRead quad clear = new_with_lem quad false 0 clear
-new_latency_lem (Code c) quad clear = new_with_lem quad true c clear
+new_latency_lem : (l : Option ℕ) (quad clear : Bool) → Replied (call.new_latency l quad clear)
+new_latency_lem None quad clear = new_with_lem quad false 0 clear
+new_latency_lem (Some c) quad clear = new_with_lem quad true c clear
 
 works : (bit : ℕ) (failure : Status) {x : Transfer} {then : Script} → ReplyEach x → Replied then → Replied (call.working bit failure x then)
 works bit failure y q =

@@ -3,8 +3,7 @@
 // leave in the flash, that of `erase_sectors` which sectors its log shows finished.
 #![tactic(auto)]
 
-ghost use Rattle.std.specs.Prelude.{◌≡◌, ◌/◌, min, length};
-ghost use Rattle.zedboard_bsp.specs.Limits.{longest_list};
+ghost use Rattle.std.specs.Prelude.{◌≡◌, ◌/◌, length};
 ghost use Rattle.qspi_script.specs.Answer.{values_in};
 ghost use Rattle.qspi_operation.specs.Machine.{called};
 ghost use Rattle.qspi_operation.specs.Points.{answered_of};
@@ -47,18 +46,6 @@ pub struct SectorsRan {
     pub place: u32,
 }
 
-// The numbers of a list that its run is lent: all of them. A longer list is refused before any access,
-// whatever its run is lent.
-fn lent(count: usize) -> usize
-    ensures count { result ≡ min count longest_list }
-{
-    if count <= LONGEST_LIST {
-        count
-    } else {
-        LONGEST_LIST
-    }
-}
-
 pub fn erase_sectors(list: &[u32], replies: &[u32], log: &mut [u32]) -> SectorsRan
     ensures answer { sectors_answer result ≡ answered_of (called (call.erase_sectors list.now) (length log.old / 2) replies.now) }
     ensures place { result.place ≡ one_of (values_in (answered_of (called (call.erase_sectors list.now) (length log.old / 2) replies.now)).says) }
@@ -68,10 +55,10 @@ pub fn erase_sectors(list: &[u32], replies: &[u32], log: &mut [u32]) -> SectorsR
 {
     let op = start::erase_sectors(list, log.len());
     let numbers = sectors::numbered(list);
-    let all = &numbers[..];
-    let count = lent(list.len());
+    // All of them: a longer list is refused before any access, whatever its run is lent.
+    let count = list.len().min(LONGEST_LIST);
     let mut buffer = [0u8; 0];
-    let s = qspi_operation::run(op, &all[..count], &mut buffer, log, replies);
+    let s = qspi_operation::run(op, &numbers[..count], &mut buffer, log, replies);
     let finished = qspi_operation::counted(s.op);
     let place = run::value(s);
     let ran = run::finish(s);

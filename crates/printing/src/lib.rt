@@ -1,77 +1,55 @@
-// Pieces of lines on standard output, for the programs. Hex is upper case, as in document 01.
+// Answers as the programs print them.
 #![tactic(auto)]
 
-// The descriptors of standard input and output.
-pub const STDIN_FILENO: i32 = 0;
+ghost use Rattle.std.specs.Prelude.{◌≡◌, Some};
+ghost use Rattle.printing.specs.Answer.{answer_name, answer_text};
 
-pub const STDOUT_FILENO: i32 = 1;
+use std::fmt;
 
-pub fn text(bytes: &[u8]) {
-    io::write_all(STDOUT_FILENO, bytes);
-}
+// An answer by the papers' number, which prints with its name; 0 is done. It is a number, and no enum: the
+// answers come from several, `Status`, the clock's errors and others, and one that the papers lack prints too.
+#[derive(Clone, Copy, Debug, PartialEq, Eq)]
+pub struct AnswerNumber(pub u32);
 
-pub fn decimal(name: &[u8], n: usize) {
-    text(name);
-    io::print_decimal(STDOUT_FILENO, n as u64);
-}
-
-// The last digits of a word, at most eight.
-pub fn hex(name: &[u8], word: u32, digits: usize) {
-    text(name);
-    let eight = [
-        digit(word / 0x1000_0000),
-        digit(word / 0x100_0000),
-        digit(word / 0x10_0000),
-        digit(word / 0x1_0000),
-        digit(word / 0x1000),
-        digit(word / 0x100),
-        digit(word / 0x10),
-        digit(word),
-    ];
-    if digits <= 8 {
-        let from = 8 - digits;
-        text(&eight[from..]);
+impl AnswerNumber {
+    // Empty where the papers have no such answer.
+    fn name(self) -> &'static str
+        ensures name { result.now ≡ answer_name self.0 }
+    {
+        match self.0 {
+            0 => "Done",
+            1 => "OutOfRange",
+            2 => "Alignment",
+            3 => "DataTooLarge",
+            4 => "NotAligned",
+            5 => "CrossesPageBoundary",
+            6 => "RefDivOutOfRange",
+            7 => "RefClockSmallerThanCpu1xClock",
+            8 => "ZeroClock",
+            9 => "TargetTooFast",
+            10 => "AddressSpan",
+            11 => "UnknownCode",
+            12 => "FieldTooWide",
+            13 => "BadLog",
+            21 => "EraseErrorBitSet",
+            22 => "ProgrammingErrorBitSet",
+            23 => "RepliesEnded",
+            24 => "LogFull",
+            25 => "LentLengthChanged",
+            31 => "BaudDivOutOfRange",
+            32 => "RepeatedSector",
+            33 => "ListTooLong",
+            _ => "",
+        }
     }
 }
 
-fn digit(n: u32) -> u8 {
-    let d = (n % 16) as u8;
-    if d < 10 { b'0' + d } else { b'A' + (d - 10) }
-}
+impl fmt::Display for AnswerNumber {
+    ghost output = { λ answer. Some (answer_text answer.0) };
 
-// The entry of a table at a place. An entry ends in a bar.
-pub fn entry(table: &[u8], place: usize) {
-    let mut left = place;
-    let mut at = 0;
-    while at < table.len() {
-        left = letter(table[at], left);
-        at += 1;
+    fn fmt<W: fmt::Write>(&self, f: &mut fmt::Formatter<W>) -> fmt::Result {
+        let number = self.0;
+        let name = self.name();
+        write!(f, "{number} {name}")
     }
-}
-
-// Shows the letter where no entry is left to pass, and returns how many are. After the entry shown, more
-// are left than there will be.
-fn letter(letter: u8, left: usize) -> usize {
-    if letter == b'|' {
-        return std::num::wrapping_sub_usize(left, 1);
-    }
-    if left == 0 {
-        text(&[letter]);
-    }
-    left
-}
-
-// An answer by the papers' number and name; 0 is done.
-pub fn answer(number: u32) {
-    let names = b"\
-        Done|OutOfRange|Alignment|DataTooLarge|NotAligned|CrossesPageBoundary|RefDivOutOfRange|\
-        RefClockSmallerThanCpu1xClock|ZeroClock|TargetTooFast|AddressSpan|UnknownCode|FieldTooWide|BadLog|\
-        |||||||\
-        EraseErrorBitSet|ProgrammingErrorBitSet|RepliesEnded|LogFull|LentLengthChanged|\
-        |||||\
-        BaudDivOutOfRange|RepeatedSector|ListTooLong|\
-    ";
-    decimal(b"", number as usize);
-    text(b" ");
-    entry(names, number as usize);
 }

@@ -1,83 +1,80 @@
-// Codes and numbers of the boundary.
-ghost use Rattle.std.specs.Prelude.{◌≡◌, not, ◌||◌, ◌+◌, ◌*◌, ltb, get_or};
+// Codes of the boundary: what they stand for, and a code that is wider than its field or not listed.
+ghost use Rattle.std.specs.Prelude.{◌≡◌, get_or};
 ghost use Rattle.zynq7000_hal.specs.Clocks.{baud_values};
-ghost use Rattle.zedboard_bsp.specs.DeviceId.{interface_answer, density_answer, sector_answer};
-ghost use Rattle.qspi_abi.specs.Codes.{source_of, divisor_at, baud_rate_of, latency_of, vendor_of};
+ghost use Rattle.qspi_abi.specs.Codes.{source_at, divisor_within, config_at, instruction_at, vendor_of, code_number};
 
-use qspi_calls::start::Latency;
-use zedboard_bsp::qspi_spansion::device_id::{
-    DensityCode, MemoryInterfaceTypeCode, SectorArchictectureCode,
-};
-use zynq7000::qspi::BaudRateDivisor;
+use zedboard_bsp::qspi_spansion::device_id::UnknownCode;
+use zynq7000::qspi::{BaudRateDivisor, InstructionCode};
 use zynq7000::slcr::clocks::SrcSelIo;
-use zynq7000_hal::qspi::{BaudRateConfig, ClockConfig, QspiVendor};
+use zynq7000_hal::qspi::{BaudRateConfig, ClockConfig, FieldTooWide, QspiVendor};
 
-pub fn source(code: u8) -> SrcSelIo
-    ensures source { result ≡ source_of code }
+// The numbers of a code that is not listed, and of one that is wider than its field.
+pub const UNKNOWN_CODE: u32 = 11;
+
+pub const FIELD_TOO_WIDE: u32 = 12;
+
+pub fn source(code: u8) -> Result<SrcSelIo, FieldTooWide>
+    ensures source { result ≡ source_at code }
 {
     match code {
-        0 => SrcSelIo::IoPll,
-        1 => SrcSelIo::IoPllAlt,
-        2 => SrcSelIo::ArmPll,
-        _ => SrcSelIo::DdrPll,
+        0 => Ok(SrcSelIo::IoPll),
+        1 => Ok(SrcSelIo::IoPllAlt),
+        2 => Ok(SrcSelIo::ArmPll),
+        3 => Ok(SrcSelIo::DdrPll),
+        _ => Err(FieldTooWide),
     }
 }
 
-fn divisor(code: u8) -> BaudRateDivisor
-    ensures divisor { result ≡ divisor_at code }
+fn divisor(code: u8) -> Result<BaudRateDivisor, FieldTooWide>
+    ensures divisor { result ≡ divisor_within code }
 {
     match code {
-        0 => BaudRateDivisor::_2,
-        1 => BaudRateDivisor::_4,
-        2 => BaudRateDivisor::_8,
-        3 => BaudRateDivisor::_16,
-        4 => BaudRateDivisor::_32,
-        5 => BaudRateDivisor::_64,
-        6 => BaudRateDivisor::_128,
-        _ => BaudRateDivisor::_256,
+        0 => Ok(BaudRateDivisor::_2),
+        1 => Ok(BaudRateDivisor::_4),
+        2 => Ok(BaudRateDivisor::_8),
+        3 => Ok(BaudRateDivisor::_16),
+        4 => Ok(BaudRateDivisor::_32),
+        5 => Ok(BaudRateDivisor::_64),
+        6 => Ok(BaudRateDivisor::_128),
+        7 => Ok(BaudRateDivisor::_256),
+        _ => Err(FieldTooWide),
     }
 }
 
-fn baud_rate(loopback: bool, code: u8) -> BaudRateConfig
-    ensures config { result ≡ baud_rate_of loopback code }
+// A divisor's code is refused with loopback too, which has no divisor.
+pub fn clock_config(
+    src_sel: u8,
+    ref_clk_div: u8,
+    loopback: bool,
+    baud_rate_div: u8,
+) -> Result<ClockConfig, FieldTooWide>
+    ensures config { result ≡ config_at src_sel ref_clk_div loopback baud_rate_div }
 {
-    if loopback {
-        BaudRateConfig::WithLoopback
-    } else {
-        BaudRateConfig::WithoutLoopback(divisor(code))
-    }
-}
-
-// Whether a source's code and a baud rate divisor's are within their fields.
-pub fn fit(source: u8, divisor: u8) -> bool
-    ensures fit { result ≡ not (ltb 3 source || ltb 7 divisor) }
-{
-    if 3 < source {
-        return false;
-    }
-    if 7 < divisor {
-        return false;
-    }
-    true
-}
-
-pub fn clock_config(src_sel: u8, ref_clk_div: u8, loopback: bool, baud_rate_div: u8) -> ClockConfig
-    ensures config { result ≡ record { src_sel = source_of src_sel; ref_clk_div = ref_clk_div; baud_rate_config = baud_rate_of loopback baud_rate_div } }
-{
-    ClockConfig {
-        src_sel: source(src_sel),
+    let src_sel = source(src_sel)?;
+    let divisor = divisor(baud_rate_div)?;
+    Ok(ClockConfig {
+        src_sel,
         ref_clk_div,
-        baud_rate_config: baud_rate(loopback, baud_rate_div),
-    }
+        baud_rate_config: if loopback {
+            BaudRateConfig::WithLoopback
+        } else {
+            BaudRateConfig::WithoutLoopback(divisor)
+        },
+    })
 }
 
-pub fn latency(given: bool, code: u8) -> Latency
-    ensures latency { result ≡ latency_of given code }
+// The read instruction of a command byte.
+pub fn instruction(code: u8) -> Result<InstructionCode, UnknownCode>
+    ensures instruction { result ≡ instruction_at code }
 {
-    if given {
-        Latency::Code(code)
-    } else {
-        Latency::AsRead
+    match code {
+        0x03 => Ok(InstructionCode::Read),
+        0x0B => Ok(InstructionCode::FastRead),
+        0x3B => Ok(InstructionCode::FastReadDualOutput),
+        0x6B => Ok(InstructionCode::FastReadQuadOutput),
+        0xBB => Ok(InstructionCode::FastReadDualIo),
+        0xEB => Ok(InstructionCode::FastReadQuadIo),
+        _ => Err(UnknownCode(code)),
     }
 }
 
@@ -101,37 +98,12 @@ pub fn loopback_number(config: BaudRateConfig) -> u32
     }
 }
 
-// 0 for a listed code, else 11.
-pub fn interface_number(code: MemoryInterfaceTypeCode) -> u32
-    ensures number { result ≡ (interface_answer code).number }
+// 0 for a listed code of an id.
+pub fn number<T: Copy>(code: Result<T, UnknownCode>) -> u32
+    ensures number { result ≡ code_number code }
 {
     match code {
-        MemoryInterfaceTypeCode::Known(_) => 0,
-        MemoryInterfaceTypeCode::UnknownCode(_) => 11,
+        Ok(_) => 0,
+        Err(_) => UNKNOWN_CODE,
     }
-}
-
-pub fn density_number(code: DensityCode) -> u32
-    ensures number { result ≡ (density_answer code).number }
-{
-    match code {
-        DensityCode::Known(_) => 0,
-        DensityCode::UnknownCode(_) => 11,
-    }
-}
-
-pub fn sector_number(code: SectorArchictectureCode) -> u32
-    ensures number { result ≡ (sector_answer code).number }
-{
-    match code {
-        SectorArchictectureCode::Known(_) => 0,
-        SectorArchictectureCode::UnknownCode(_) => 11,
-    }
-}
-
-// Two bytes as one number, high byte first.
-pub fn pair(high: u8, low: u8) -> u32
-    ensures number { result ≡ high * 256 + low }
-{
-    high as u32 * 256 + low as u32
 }

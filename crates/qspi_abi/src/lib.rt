@@ -1,11 +1,11 @@
 // The driver's calls with numbers and slices in, a struct of numbers out: what `qspi_abi_c` exports to C and
 // Rust. `include/qspi.h` declares these functions and says what the numbers are. Each runs one call from
-// its start to its end over the replies and the log lent; any input gets an answer.
+// its start to its end over the replies and the log lent; any input gets an answer. The structs are C's: an
+// answer's number stands beside its values, which are 0 where it has none, and an id's codes are numbers.
 #![tactic(auto)]
 
-ghost use Rattle.std.specs.Prelude.{◌≡◌, true, false, ℕ, ◌/◌, length, List, []};
+ghost use Rattle.std.specs.Prelude.{◌≡◌, true, false, ℕ, ◌/◌, length, List, [], Ok};
 ghost use Rattle.zynq7000_hal.specs.Clocks.{answer_of, calculate_answer, loopback_answer};
-ghost use Rattle.zynq7000_hal.specs.declared.qspi.ClockCalculation.TheVariants as calculation;
 ghost use Rattle.zynq7000.specs.Qspi.{linear_word};
 ghost use Rattle.zynq7000_hal.specs.Presets.{preset as preset_words};
 ghost use Rattle.zedboard_bsp.specs.DeviceId.{base_bytes, extended_bytes, reply_bytes, long_reply_bytes};
@@ -28,11 +28,11 @@ use qspi_calls::start::Config;
 use qspi_calls::{run, start};
 use qspi_operation::{Op, Stepped};
 use qspi_script::Status;
-use zedboard_bsp::qspi_spansion::device_id::{BaseDeviceId, ExtendedDeviceId};
+use zedboard_bsp::qspi_spansion::device_id::{BaseDeviceId, ExtendedDeviceId, UnknownCode};
 use zynq7000::qspi::InstructionCode;
 use zynq7000_hal::clocks::Clocks;
 use zynq7000_hal::qspi;
-use zynq7000_hal::qspi::{ClockCalculation, ClockConfig, QspiDeviceCombination};
+use zynq7000_hal::qspi::{ClockCalculationError, ClockConfig, QspiDeviceCombination};
 
 mod codes;
 
@@ -125,59 +125,60 @@ const GOES_ON: u32 = 0xFFFF_FFFF;
 fn number_of(answer: Status) -> u32
     ensures number { (vs : List ℕ) → result ≡ numbers.answer_number (said_by answer vs) }
 {
-    let number = answer.number();
-    number.unwrap_or(GOES_ON)
+    answer.number().unwrap_or(GOES_ON)
 }
 
-fn ran_out(s: Stepped) -> QspiRan
-    ensures numbers { result ≡ numbers.ran (answer_by s) }
-{
-    let answer = s.answer;
-    let op = s.op;
-    QspiRan {
-        answer: number_of(answer),
-        used: op.used,
-        replies: op.replies,
+impl From<Stepped> for QspiRan {
+    ghost from_gives = { λ s r. r ≡ numbers.ran (answer_by s) };
+
+    fn from(s: Stepped) -> Self {
+        QspiRan {
+            answer: number_of(s.answer),
+            used: s.op.used,
+            replies: s.op.replies,
+        }
     }
 }
 
-fn value_out(s: Stepped) -> QspiValueRan
-    ensures numbers { result ≡ numbers.valued (answer_by s) }
-{
-    let answer = s.answer;
-    let op = s.op;
-    QspiValueRan {
-        answer: number_of(answer),
-        value: run::value(s),
-        used: op.used,
-        replies: op.replies,
+impl From<Stepped> for QspiValueRan {
+    ghost from_gives = { λ s r. r ≡ numbers.valued (answer_by s) };
+
+    fn from(s: Stepped) -> Self {
+        QspiValueRan {
+            answer: number_of(s.answer),
+            value: run::value(s),
+            used: s.op.used,
+            replies: s.op.replies,
+        }
     }
 }
 
-fn pages_out(pages: PagesRan) -> QspiPagesRan
-    ensures numbers { result ≡ numbers.pages (pages_answer pages) }
-{
-    let ran = pages.ran;
-    let answer = ran.answer;
-    QspiPagesRan {
-        answer: number_of(answer),
-        programmed: pages.programmed,
-        used: ran.used,
-        replies: ran.replies,
+impl From<PagesRan> for QspiPagesRan {
+    ghost from_gives = { λ pages r. r ≡ numbers.pages (pages_answer pages) };
+
+    fn from(pages: PagesRan) -> Self {
+        let ran = pages.ran;
+        QspiPagesRan {
+            answer: number_of(ran.answer),
+            programmed: pages.programmed,
+            used: ran.used,
+            replies: ran.replies,
+        }
     }
 }
 
-fn sectors_out(sectors: SectorsRan) -> QspiSectorsRan
-    ensures numbers { result ≡ numbers.with_place (sectors_answer sectors) sectors.place }
-{
-    let ran = sectors.ran;
-    let answer = ran.answer;
-    QspiSectorsRan {
-        answer: number_of(answer),
-        place: sectors.place,
-        finished: sectors.finished,
-        used: ran.used,
-        replies: ran.replies,
+impl From<SectorsRan> for QspiSectorsRan {
+    ghost from_gives = { λ sectors r. r ≡ numbers.with_place (sectors_answer sectors) sectors.place };
+
+    fn from(sectors: SectorsRan) -> Self {
+        let ran = sectors.ran;
+        QspiSectorsRan {
+            answer: number_of(ran.answer),
+            place: sectors.place,
+            finished: sectors.finished,
+            used: ran.used,
+            replies: ran.replies,
+        }
     }
 }
 
@@ -185,83 +186,73 @@ fn sectors_out(sectors: SectorsRan) -> QspiSectorsRan
 fn command(op: Op, replies: &[u32], log: &mut [u32]) -> QspiRan
     ensures called { numbers.Commands op log.old replies.now result log.new }
 {
-    ran_out(run::command(op, replies, log))
+    QspiRan::from(run::command(op, replies, log))
 }
 
-// One that gives a number: a register of the chip, or the SLCR clock word.
+// One that gives a number: a register of the chip, or the SLCR clock word. One generic function for this and
+// `command` would leave what either promises to be shown at each call.
 fn valued(op: Op, replies: &[u32], log: &mut [u32]) -> QspiValueRan
     ensures called { numbers.Gives op log.old replies.now result log.new }
 {
-    value_out(run::command(op, replies, log))
+    QspiValueRan::from(run::command(op, replies, log))
 }
 
 // One that is lent a buffer too.
 fn read(op: Op, buffer: &mut [u8], replies: &[u32], log: &mut [u32]) -> QspiRan
     ensures called { numbers.Reads op buffer.old log.old replies.now result buffer.new log.new }
 {
-    let data = [0u8; 0];
-    ran_out(qspi_operation::run(op, &data, buffer, log, replies))
+    QspiRan::from(qspi_operation::run(op, &[], buffer, log, replies))
 }
 
 // The id that the replies carry, where the call is done.
 fn id_of(s: Stepped) -> BaseDeviceId
     ensures id { base_bytes result ≡ reply_bytes (kept_of s.answer s.op.wire.last) }
 {
-    let op = s.op;
-    let wire = op.wire;
-    let answer = s.answer;
-    BaseDeviceId::from_reply(run::kept(answer, wire.last))
+    BaseDeviceId::from_reply(run::kept(s.answer, s.op.wire.last))
 }
 
 fn long_id_of(s: Stepped) -> ExtendedDeviceId
     ensures id { extended_bytes result ≡ long_reply_bytes (kept_of s.answer s.op.wire.older) (kept_of s.answer s.op.wire.old) (kept_of s.answer s.op.wire.last) }
 {
-    let op = s.op;
-    let wire = op.wire;
-    let answer = s.answer;
+    let wire = s.op.wire;
     ExtendedDeviceId::from_replies(
-        run::kept(answer, wire.older),
-        run::kept(answer, wire.old),
-        run::kept(answer, wire.last),
+        run::kept(s.answer, wire.older),
+        run::kept(s.answer, wire.old),
+        run::kept(s.answer, wire.last),
     )
 }
 
 fn id_out(s: Stepped, id: BaseDeviceId) -> QspiIdRan
     ensures numbers { result ≡ numbers.with_id (answer_by s) (base_bytes id) }
 {
-    let answer = s.answer;
-    let op = s.op;
     QspiIdRan {
-        answer: number_of(answer),
+        answer: number_of(s.answer),
         manufacturer_id: id.manufacturer_id() as u32,
         device_id: id.device_id_raw() as u32,
-        memory_interface_type: codes::interface_number(id.memory_interface_type()),
-        density: codes::density_number(id.density()),
-        used: op.used,
-        replies: op.replies,
+        memory_interface_type: codes::number(id.memory_interface_type()),
+        density: codes::number(id.density()),
+        used: s.op.used,
+        replies: s.op.replies,
     }
 }
 
 fn long_id_out(s: Stepped, long: ExtendedDeviceId) -> QspiLongIdRan
     ensures numbers { result ≡ numbers.with_long_id (answer_by s) (extended_bytes long) }
 {
-    let answer = s.answer;
-    let op = s.op;
     let id = long.base_id();
-    let model = long.model_number_raw();
     QspiLongIdRan {
-        answer: number_of(answer),
+        answer: number_of(s.answer),
         manufacturer_id: id.manufacturer_id() as u32,
         device_id: id.device_id_raw() as u32,
-        memory_interface_type: codes::interface_number(id.memory_interface_type()),
-        density: codes::density_number(id.density()),
+        memory_interface_type: codes::number(id.memory_interface_type()),
+        density: codes::number(id.density()),
         id_cfi_len: long.id_cfi_len() as u32,
         sector_arch_raw: long.sector_arch_raw() as u32,
-        sector_arch: codes::sector_number(long.sector_arch()),
+        sector_arch: codes::number(long.sector_arch()),
         family_id: long.family_id() as u32,
-        model_number: codes::pair(model[0], model[1]),
-        used: op.used,
-        replies: op.replies,
+        model_number: u16::from_be_bytes(long.model_number_raw()) as u32,
+        used: s.op.used,
+        replies: s.op.replies,
     }
 }
 
@@ -277,32 +268,33 @@ fn clock_refused(answer: u32) -> QspiClockConfig
     }
 }
 
-fn config_out(config: ClockConfig) -> QspiClockConfig
-    ensures numbers { result ≡ numbers.clock_config (answer_of (calculation.Config config)) }
-{
-    let src_sel = config.src_sel;
-    let baud_rate = config.baud_rate_config;
-    let divisor = baud_rate.baud_rate_divisor();
-    QspiClockConfig {
-        answer: 0,
-        src_sel: src_sel.raw_value(),
-        ref_clk_div: config.ref_clk_div as u32,
-        loopback: codes::loopback_number(baud_rate),
-        baud_rate_divisor: divisor.divisor(),
+impl From<ClockConfig> for QspiClockConfig {
+    ghost from_gives = { λ config r. r ≡ numbers.clock_config (answer_of (Ok config)) };
+
+    fn from(config: ClockConfig) -> Self {
+        let baud_rate = config.baud_rate_config;
+        QspiClockConfig {
+            answer: 0,
+            src_sel: config.src_sel.raw_value(),
+            ref_clk_div: config.ref_clk_div as u32,
+            loopback: codes::loopback_number(baud_rate),
+            baud_rate_divisor: baud_rate.baud_rate_divisor().divisor(),
+        }
     }
 }
 
-fn clock_out(calculation: ClockCalculation) -> QspiClockConfig
-    ensures numbers { result ≡ numbers.clock_config (answer_of calculation) }
-{
-    match calculation {
-        ClockCalculation::Config(config) => config_out(config),
-        ClockCalculation::Refused(error) => clock_refused(error.number() as u32),
+impl From<Result<ClockConfig, ClockCalculationError>> for QspiClockConfig {
+    ghost from_gives = { λ calculation r. r ≡ numbers.clock_config (answer_of calculation) };
+
+    fn from(calculation: Result<ClockConfig, ClockCalculationError>) -> Self {
+        match calculation {
+            Ok(config) => config.into(),
+            Err(error) => clock_refused(error.number() as u32),
+        }
     }
 }
 
-#[unsafe(no_mangle)]
-pub extern "C" fn qspi_calculate(
+pub fn qspi_calculate(
     src_sel: u8,
     io_ref_clk: u32,
     arm_ref_clk: u32,
@@ -313,25 +305,24 @@ pub extern "C" fn qspi_calculate(
 ) -> QspiClockConfig
     ensures config { result ≡ numbers.clock_config (codes.from_source src_sel (λ s. calculate_answer s (record { io_ref_clk = io_ref_clk; arm_ref_clk = arm_ref_clk; ddr_ref_clk = ddr_ref_clk; cpu_1x_clk = cpu_1x_clk }) target_qspi_ref_clock target_qspi_interface_clock)) }
 {
-    if 3 < src_sel {
-        return clock_refused(12);
-    }
+    let Ok(source) = codes::source(src_sel) else {
+        return clock_refused(codes::FIELD_TOO_WIDE);
+    };
     let clocks = Clocks {
         io_ref_clk,
         arm_ref_clk,
         ddr_ref_clk,
         cpu_1x_clk,
     };
-    clock_out(ClockConfig::calculate(
-        codes::source(src_sel),
+    QspiClockConfig::from(ClockConfig::calculate(
+        source,
         clocks,
         target_qspi_ref_clock,
         target_qspi_interface_clock,
     ))
 }
 
-#[unsafe(no_mangle)]
-pub extern "C" fn qspi_calculate_with_loopback(
+pub fn qspi_calculate_with_loopback(
     src_sel: u8,
     io_ref_clk: u32,
     arm_ref_clk: u32,
@@ -341,17 +332,17 @@ pub extern "C" fn qspi_calculate_with_loopback(
 ) -> QspiClockConfig
     ensures config { result ≡ numbers.clock_config (codes.from_source src_sel (λ s. loopback_answer s (record { io_ref_clk = io_ref_clk; arm_ref_clk = arm_ref_clk; ddr_ref_clk = ddr_ref_clk; cpu_1x_clk = cpu_1x_clk }) target_qspi_interface_clock)) }
 {
-    if 3 < src_sel {
-        return clock_refused(12);
-    }
+    let Ok(source) = codes::source(src_sel) else {
+        return clock_refused(codes::FIELD_TOO_WIDE);
+    };
     let clocks = Clocks {
         io_ref_clk,
         arm_ref_clk,
         ddr_ref_clk,
         cpu_1x_clk,
     };
-    clock_out(ClockConfig::calculate_with_loopback(
-        codes::source(src_sel),
+    QspiClockConfig::from(ClockConfig::calculate_with_loopback(
+        source,
         clocks,
         target_qspi_interface_clock,
     ))
@@ -373,24 +364,14 @@ fn preset(micron: bool, operating_mode: InstructionCode, two_devices: bool) -> Q
     }
 }
 
-#[unsafe(no_mangle)]
-pub extern "C" fn qspi_linear_mode_config(
-    micron: bool,
-    operating_mode: u8,
-    two_devices: bool,
-) -> QspiPreset
+pub fn qspi_linear_mode_config(micron: bool, operating_mode: u8, two_devices: bool) -> QspiPreset
     ensures config { result ≡ numbers.linear_config (codes.preset_answer micron operating_mode two_devices) }
 {
-    match operating_mode {
-        0x03 => preset(micron, InstructionCode::Read, two_devices),
-        0x0B => preset(micron, InstructionCode::FastRead, two_devices),
-        0x3B => preset(micron, InstructionCode::FastReadDualOutput, two_devices),
-        0x6B => preset(micron, InstructionCode::FastReadQuadOutput, two_devices),
-        0xBB => preset(micron, InstructionCode::FastReadDualIo, two_devices),
-        0xEB => preset(micron, InstructionCode::FastReadQuadIo, two_devices),
-        _ => QspiPreset {
-            answer: 11,
-            value: operating_mode as u32,
+    match codes::instruction(operating_mode) {
+        Ok(instruction) => preset(micron, instruction, two_devices),
+        Err(UnknownCode(byte)) => QspiPreset {
+            answer: codes::UNKNOWN_CODE,
+            value: byte as u32,
         },
     }
 }
@@ -409,8 +390,7 @@ fn initialize(
     valued(op, replies, log)
 }
 
-#[unsafe(no_mangle)]
-pub extern "C" fn qspi_initialize(
+pub fn qspi_initialize(
     src_sel: u8,
     ref_clk_div: u8,
     loopback: bool,
@@ -423,21 +403,18 @@ pub extern "C" fn qspi_initialize(
     ensures ran { result ≡ numbers.valued (answered_of (called (codes.initialize src_sel ref_clk_div loopback baud_rate_div phase polarity) (length log.old / 2) replies.now)) }
     ensures logged { log.new ≡ logged_of (called (codes.initialize src_sel ref_clk_div loopback baud_rate_div phase polarity) (length log.old / 2) replies.now) log.old }
 {
-    if codes::fit(src_sel, baud_rate_div) {
-        let config = codes::clock_config(src_sel, ref_clk_div, loopback, baud_rate_div);
-        initialize(config, phase, polarity, replies, log)
-    } else {
-        QspiValueRan {
-            answer: 12,
+    match codes::clock_config(src_sel, ref_clk_div, loopback, baud_rate_div) {
+        Ok(config) => initialize(config, phase, polarity, replies, log),
+        Err(_) => QspiValueRan {
+            answer: codes::FIELD_TOO_WIDE,
             value: 0,
             used: 0,
             replies: 0,
-        }
+        },
     }
 }
 
-#[unsafe(no_mangle)]
-pub extern "C" fn qspi_new(
+pub fn qspi_new(
     set_quad_bit_if_necessary: bool,
     set_latency: bool,
     latency: u8,
@@ -450,19 +427,14 @@ pub extern "C" fn qspi_new(
 {
     let config = Config {
         set_quad_bit_if_necessary,
-        latency_config: codes::latency(set_latency, latency),
+        latency_config: set_latency.then_some(latency),
         clear_write_protection,
     };
     let op = start::new(config, log.len());
     command(op, replies, log)
 }
 
-#[unsafe(no_mangle)]
-pub extern "C" fn qspi_enable_linear_addressing(
-    config: u32,
-    replies: &[u32],
-    log: &mut [u32],
-) -> QspiRan
+pub fn qspi_enable_linear_addressing(config: u32, replies: &[u32], log: &mut [u32]) -> QspiRan
     ensures ran { result ≡ numbers.ran (answered_of (called (call.enable_linear_addressing config) (length log.old / 2) replies.now)) }
     ensures logged { log.new ≡ logged_of (called (call.enable_linear_addressing config) (length log.old / 2) replies.now) log.old }
 {
@@ -470,8 +442,7 @@ pub extern "C" fn qspi_enable_linear_addressing(
     command(op, replies, log)
 }
 
-#[unsafe(no_mangle)]
-pub extern "C" fn qspi_enable_io_mode(dual_flash: bool, replies: &[u32], log: &mut [u32]) -> QspiRan
+pub fn qspi_enable_io_mode(dual_flash: bool, replies: &[u32], log: &mut [u32]) -> QspiRan
     ensures ran { result ≡ numbers.ran (answered_of (called (call.enable_io_mode dual_flash) (length log.old / 2) replies.now)) }
     ensures logged { log.new ≡ logged_of (called (call.enable_io_mode dual_flash) (length log.old / 2) replies.now) log.old }
 {
@@ -479,8 +450,7 @@ pub extern "C" fn qspi_enable_io_mode(dual_flash: bool, replies: &[u32], log: &m
     command(op, replies, log)
 }
 
-#[unsafe(no_mangle)]
-pub extern "C" fn qspi_disable(replies: &[u32], log: &mut [u32]) -> QspiRan
+pub fn qspi_disable(replies: &[u32], log: &mut [u32]) -> QspiRan
     ensures ran { result ≡ numbers.ran (answered_of (called call.disable (length log.old / 2) replies.now)) }
     ensures logged { log.new ≡ logged_of (called call.disable (length log.old / 2) replies.now) log.old }
 {
@@ -488,12 +458,7 @@ pub extern "C" fn qspi_disable(replies: &[u32], log: &mut [u32]) -> QspiRan
     command(op, replies, log)
 }
 
-#[unsafe(no_mangle)]
-pub extern "C" fn qspi_set_write_protection(
-    protection: u8,
-    replies: &[u32],
-    log: &mut [u32],
-) -> QspiRan
+pub fn qspi_set_write_protection(protection: u8, replies: &[u32], log: &mut [u32]) -> QspiRan
     ensures ran { result ≡ numbers.ran (answered_of (called (call.set_write_protection protection) (length log.old / 2) replies.now)) }
     ensures logged { log.new ≡ logged_of (called (call.set_write_protection protection) (length log.old / 2) replies.now) log.old }
 {
@@ -501,8 +466,7 @@ pub extern "C" fn qspi_set_write_protection(
     command(op, replies, log)
 }
 
-#[unsafe(no_mangle)]
-pub extern "C" fn qspi_write_enable(replies: &[u32], log: &mut [u32]) -> QspiRan
+pub fn qspi_write_enable(replies: &[u32], log: &mut [u32]) -> QspiRan
     ensures ran { result ≡ numbers.ran (answered_of (called call.write_enable (length log.old / 2) replies.now)) }
     ensures logged { log.new ≡ logged_of (called call.write_enable (length log.old / 2) replies.now) log.old }
 {
@@ -510,8 +474,7 @@ pub extern "C" fn qspi_write_enable(replies: &[u32], log: &mut [u32]) -> QspiRan
     command(op, replies, log)
 }
 
-#[unsafe(no_mangle)]
-pub extern "C" fn qspi_write_disable(replies: &[u32], log: &mut [u32]) -> QspiRan
+pub fn qspi_write_disable(replies: &[u32], log: &mut [u32]) -> QspiRan
     ensures ran { result ≡ numbers.ran (answered_of (called call.write_disable (length log.old / 2) replies.now)) }
     ensures logged { log.new ≡ logged_of (called call.write_disable (length log.old / 2) replies.now) log.old }
 {
@@ -519,8 +482,7 @@ pub extern "C" fn qspi_write_disable(replies: &[u32], log: &mut [u32]) -> QspiRa
     command(op, replies, log)
 }
 
-#[unsafe(no_mangle)]
-pub extern "C" fn qspi_clear_status(replies: &[u32], log: &mut [u32]) -> QspiRan
+pub fn qspi_clear_status(replies: &[u32], log: &mut [u32]) -> QspiRan
     ensures ran { result ≡ numbers.ran (answered_of (called call.clear_status (length log.old / 2) replies.now)) }
     ensures logged { log.new ≡ logged_of (called call.clear_status (length log.old / 2) replies.now) log.old }
 {
@@ -528,8 +490,7 @@ pub extern "C" fn qspi_clear_status(replies: &[u32], log: &mut [u32]) -> QspiRan
     command(op, replies, log)
 }
 
-#[unsafe(no_mangle)]
-pub extern "C" fn qspi_write_status(sr: u8, replies: &[u32], log: &mut [u32]) -> QspiRan
+pub fn qspi_write_status(sr: u8, replies: &[u32], log: &mut [u32]) -> QspiRan
     ensures ran { result ≡ numbers.ran (answered_of (called (call.write_status sr) (length log.old / 2) replies.now)) }
     ensures logged { log.new ≡ logged_of (called (call.write_status sr) (length log.old / 2) replies.now) log.old }
 {
@@ -537,8 +498,7 @@ pub extern "C" fn qspi_write_status(sr: u8, replies: &[u32], log: &mut [u32]) ->
     command(op, replies, log)
 }
 
-#[unsafe(no_mangle)]
-pub extern "C" fn qspi_write_status_and_config_register(
+pub fn qspi_write_status_and_config_register(
     sr: u8,
     cr: u8,
     replies: &[u32],
@@ -551,8 +511,7 @@ pub extern "C" fn qspi_write_status_and_config_register(
     command(op, replies, log)
 }
 
-#[unsafe(no_mangle)]
-pub extern "C" fn qspi_erase_sector(addr: u32, replies: &[u32], log: &mut [u32]) -> QspiRan
+pub fn qspi_erase_sector(addr: u32, replies: &[u32], log: &mut [u32]) -> QspiRan
     ensures ran { result ≡ numbers.ran (answered_of (called (call.erase_sector addr) (length log.old / 2) replies.now)) }
     ensures logged { log.new ≡ logged_of (called (call.erase_sector addr) (length log.old / 2) replies.now) log.old }
 {
@@ -560,32 +519,24 @@ pub extern "C" fn qspi_erase_sector(addr: u32, replies: &[u32], log: &mut [u32])
     command(op, replies, log)
 }
 
-#[unsafe(no_mangle)]
-pub extern "C" fn qspi_erase_sectors(
-    list: &[u32],
-    replies: &[u32],
-    log: &mut [u32],
-) -> QspiSectorsRan
+pub fn qspi_erase_sectors(list: &[u32], replies: &[u32], log: &mut [u32]) -> QspiSectorsRan
     ensures ran { result ≡ numbers.sectors (answered_of (called (call.erase_sectors list.now) (length log.old / 2) replies.now)) }
     ensures logged { log.new ≡ logged_of (called (call.erase_sectors list.now) (length log.old / 2) replies.now) log.old }
     ensures singles { Accepted list.now → SingleNumbers list.now (length log.old / 2) replies.now log.old result log.new }
     ensures shown { ClearedNumbers list.now result log.new }
 {
-    sectors_out(power_cut::erase_sectors(list, replies, log))
+    QspiSectorsRan::from(power_cut::erase_sectors(list, replies, log))
 }
 
-#[unsafe(no_mangle)]
-pub extern "C" fn qspi_program(addr: u32, data: &[u8], replies: &[u32], log: &mut [u32]) -> QspiRan
+pub fn qspi_program(addr: u32, data: &[u8], replies: &[u32], log: &mut [u32]) -> QspiRan
     ensures ran { result ≡ numbers.ran (answered_of (called (call.program addr «data».now) (length log.old / 2) replies.now)) }
     ensures logged { log.new ≡ logged_of (called (call.program addr «data».now) (length log.old / 2) replies.now) log.old }
 {
     let op = start::program(addr, data.len(), log.len());
-    let mut buffer = [0u8; 0];
-    ran_out(qspi_operation::run(op, data, &mut buffer, log, replies))
+    QspiRan::from(qspi_operation::run(op, data, &mut [], log, replies))
 }
 
-#[unsafe(no_mangle)]
-pub extern "C" fn qspi_read_page_read(
+pub fn qspi_read_page_read(
     addr: u32,
     buffer: &mut [u8],
     replies: &[u32],
@@ -599,8 +550,7 @@ pub extern "C" fn qspi_read_page_read(
     read(op, buffer, replies, log)
 }
 
-#[unsafe(no_mangle)]
-pub extern "C" fn qspi_read_fast_read(
+pub fn qspi_read_fast_read(
     addr: u32,
     dummy_byte: bool,
     buffer: &mut [u8],
@@ -615,8 +565,7 @@ pub extern "C" fn qspi_read_fast_read(
     read(op, buffer, replies, log)
 }
 
-#[unsafe(no_mangle)]
-pub extern "C" fn qspi_read_status_register_1(replies: &[u32], log: &mut [u32]) -> QspiValueRan
+pub fn qspi_read_status_register_1(replies: &[u32], log: &mut [u32]) -> QspiValueRan
     ensures ran { result ≡ numbers.valued (answered_of (called call.read_status (length log.old / 2) replies.now)) }
     ensures logged { log.new ≡ logged_of (called call.read_status (length log.old / 2) replies.now) log.old }
 {
@@ -624,8 +573,7 @@ pub extern "C" fn qspi_read_status_register_1(replies: &[u32], log: &mut [u32]) 
     valued(op, replies, log)
 }
 
-#[unsafe(no_mangle)]
-pub extern "C" fn qspi_read_configuration_register(replies: &[u32], log: &mut [u32]) -> QspiValueRan
+pub fn qspi_read_configuration_register(replies: &[u32], log: &mut [u32]) -> QspiValueRan
     ensures ran { result ≡ numbers.valued (answered_of (called call.read_config (length log.old / 2) replies.now)) }
     ensures logged { log.new ≡ logged_of (called call.read_config (length log.old / 2) replies.now) log.old }
 {
@@ -633,8 +581,7 @@ pub extern "C" fn qspi_read_configuration_register(replies: &[u32], log: &mut [u
     valued(op, replies, log)
 }
 
-#[unsafe(no_mangle)]
-pub extern "C" fn qspi_read_rdid_base(replies: &[u32], log: &mut [u32]) -> QspiIdRan
+pub fn qspi_read_rdid_base(replies: &[u32], log: &mut [u32]) -> QspiIdRan
     ensures ran { result ≡ numbers.identified (answered_of (called call.read_id (length log.old / 2) replies.now)) }
     ensures logged { log.new ≡ logged_of (called call.read_id (length log.old / 2) replies.now) log.old }
 {
@@ -643,8 +590,7 @@ pub extern "C" fn qspi_read_rdid_base(replies: &[u32], log: &mut [u32]) -> QspiI
     id_out(s, id_of(s))
 }
 
-#[unsafe(no_mangle)]
-pub extern "C" fn qspi_read_rdid_extended(replies: &[u32], log: &mut [u32]) -> QspiLongIdRan
+pub fn qspi_read_rdid_extended(replies: &[u32], log: &mut [u32]) -> QspiLongIdRan
     ensures ran { result ≡ numbers.identified_at_length (answered_of (called call.read_long_id (length log.old / 2) replies.now)) }
     ensures logged { log.new ≡ logged_of (called call.read_long_id (length log.old / 2) replies.now) log.old }
 {
@@ -653,16 +599,10 @@ pub extern "C" fn qspi_read_rdid_extended(replies: &[u32], log: &mut [u32]) -> Q
     long_id_out(s, long_id_of(s))
 }
 
-#[unsafe(no_mangle)]
-pub extern "C" fn qspi_write_pages(
-    addr: u32,
-    data: &[u8],
-    replies: &[u32],
-    log: &mut [u32],
-) -> QspiPagesRan
+pub fn qspi_write_pages(addr: u32, data: &[u8], replies: &[u32], log: &mut [u32]) -> QspiPagesRan
     ensures ran { result ≡ numbers.pages (answered_of (called (call.write_pages addr «data».now) (length log.old / 2) replies.now)) }
     ensures logged { log.new ≡ logged_of (called (call.write_pages addr «data».now) (length log.old / 2) replies.now) log.old }
     ensures cut { SavedNumbers addr «data».now result log.new }
 {
-    pages_out(power_cut::write_pages(addr, data, replies, log))
+    QspiPagesRan::from(power_cut::write_pages(addr, data, replies, log))
 }

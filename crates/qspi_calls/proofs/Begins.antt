@@ -27,13 +27,13 @@ use Rattle.qspi_calls.proofs.LowLevelCalls as low
 
 -- what a start that is given the lengths of the lent memory promises, out of its equation by counters
 abbrev OnlyLog : (ℕ → Op) → Script → Type 0
-OnlyLog o₀ c = (n : ℕ) → n < 2 ^ 64 → (o : Op) → o ≡ o₀ n → (o ≡ o₀ n) × Begins n c o
+OnlyLog o₀ c = (n : ℕ) → n < 2 ^ 64 → (o : Op) → o ≡ o₀ n → Begins n c o
 
 abbrev WithData : (ℕ → ℕ → Op) → (List ℕ → Script) → Type 0
-WithData o₀ c = (d n : ℕ) → n < 2 ^ 64 → (o : Op) → o ≡ o₀ d n → (o ≡ o₀ d n) × BeginsWith d n c o
+WithData o₀ c = (d n : ℕ) → n < 2 ^ 64 → (o : Op) → o ≡ o₀ d n → BeginsWith d n c o
 
 abbrev IntoBuffer : (ℕ → ℕ → Op) → (ℕ → Script) → Type 0
-IntoBuffer o₀ c = (b n : ℕ) → n < 2 ^ 64 → (o : Op) → o ≡ o₀ b n → (o ≡ o₀ b n) × BeginsInto b n (c b) o
+IntoBuffer o₀ c = (b n : ℕ) → n < 2 ^ 64 → (o : Op) → o ≡ o₀ b n → BeginsInto b n (c b) o
 
 module _ (o₀ : ℕ → Op) where
   -- a call that is lent only a log
@@ -42,28 +42,24 @@ module _ (o₀ : ℕ → Op) where
       let log : List ℕ = replicate n 0 in
       let k : length log ≡ n = length-replicate {A = ℕ} n 0 in
       let y : Begun (record { bytes = []; buffer = []; room = length log }) c (o₀ (length log)) = started (o₀ (length log)) [] log [] c (omega (arith, k, fits)) (h log) in
-      (e, rw e (rw k at y))
+      rw e (rw k at y)
 
 module _ (o₀ : ℕ → ℕ → Op) where
   with_data : (c : List ℕ → Script) → ((bs log : List ℕ) → Starts (o₀ (length bs) (length log)) bs log [] (c bs)) → WithData o₀ c
   with_data c h d n fits o e =
       let log : List ℕ = replicate n 0 in
-      let k : length log ≡ n = length-replicate {A = ℕ} n 0 in (
-        e,
-        λ bs m.
-            let y : Begun (record { bytes = bs; buffer = []; room = length log }) (c bs) (o₀ (length bs) (length log)) = started (o₀ (length bs) (length log)) bs log [] (c bs) (omega (arith, k, fits)) (h bs log) in
-            rw (e, ← m) (rw k at y),
-      )
+      let k : length log ≡ n = length-replicate {A = ℕ} n 0 in
+      λ bs m.
+      let y : Begun (record { bytes = bs; buffer = []; room = length log }) (c bs) (o₀ (length bs) (length log)) = started (o₀ (length bs) (length log)) bs log [] (c bs) (omega (arith, k, fits)) (h bs log) in
+      rw (e, ← m) (rw k at y)
 
   with_buffer : (c : ℕ → Script) → ((log old : List ℕ) → Starts (o₀ (length old) (length log)) [] log old (c (length old))) → IntoBuffer o₀ c
   with_buffer c h b n fits o e =
       let log : List ℕ = replicate n 0 in
-      let k : length log ≡ n = length-replicate {A = ℕ} n 0 in (
-        e,
-        λ old m.
-            let y : Begun (record { bytes = []; buffer = old; room = length log }) (c (length old)) (o₀ (length old) (length log)) = started (o₀ (length old) (length log)) [] log old (c (length old)) (omega (arith, k, fits)) (h log old) in
-            rw (e, ← m) (rw k at y),
-      )
+      let k : length log ≡ n = length-replicate {A = ℕ} n 0 in
+      λ old m.
+      let y : Begun (record { bytes = []; buffer = old; room = length log }) (c (length old)) (o₀ (length old) (length log)) = started (o₀ (length old) (length log)) [] log old (c (length old)) (omega (arith, k, fits)) (h log old) in
+      rw (e, ← m) (rw k at y)
 
 pub write_enable_lem : OnlyLog (start.one_transfer stage.Enable gives.Nothing) call.write_enable
 write_enable_lem = only_log (start.one_transfer stage.Enable gives.Nothing) call.write_enable one.write_enable_lem
@@ -107,12 +103,12 @@ program a = with_data (start.program_of a) (call.program a) (several.program a)
 pub write_pages_lem : (a : ℕ) → WithData (start.write_pages_of a) (call.write_pages a)
 write_pages_lem a = with_data (start.write_pages_of a) (call.write_pages a) (pages.write_pages_lem a)
 
-pub erase_sectors_lem : (l : List ℕ) (n : ℕ) → n < 2 ^ 64 → (o : Op) → o ≡ start.erase_sectors_of l n → (o ≡ start.erase_sectors_of l n) × BeginsList l n o
+pub erase_sectors_lem : (l : List ℕ) (n : ℕ) → n < 2 ^ 64 → (o : Op) → o ≡ start.erase_sectors_of l n → BeginsList l n o
 erase_sectors_lem l n fits o e =
     let log : List ℕ = replicate n 0 in
     let k : length log ≡ n = length-replicate {A = ℕ} n 0 in
     let y : BeginsList l (length log) (start.erase_sectors_of l (length log)) = started (start.erase_sectors_of l (length log)) (numbers l) log [] (call.erase_sectors l) (omega (arith, k, fits)) (sectors.erase_sectors_lem l log) in
-    (e, rw e (rw k at y))
+    rw e (rw k at y)
 
 pub read_page_read : (a : ℕ) → IntoBuffer (start.read_of a false false) (call.read false false a)
 read_page_read a = with_buffer (start.read_of a false false) (call.read false false a) (reading.read false false a)

@@ -1,12 +1,15 @@
 -- What the loops over a list of sectors keep. Assumes nothing.
-use mathlib.Core.Path.{◌≡◌, refl, ap, ◌∙◌, sym}
+use mathlib.Core.Path.{◌≡◌, refl, ap, ◌∙◌, sym, subst}
+use Rattle.std.proofs.Common.{min, ltb-true, ltb-false}
+use Rattle.std.proofs.Math.Nat.{min-le_left, min-le_right, min-eq_left, min-eq_right}
+use Rattle.std.proofs.lemmas.List.{length-take-le, get_or-take}
 use mathlib.Core.Bool.{Bool, true, false, cond, ◌||◌}
 use mathlib.Core.List.{List, [], ◌∷◌, ◌++◌}
 use Prim.Native.Nat.{ℕ, zero, suc, ◌+◌, ◌-◌, ◌≤◌, ◌<◌}
 use native.Mathlib.Omega.{arith}
 use lib.Dec.{ltb, eqb}
-use lib.ListN.{length, get_or, take, drop, set, replicate, length-take, length-append, drop_of_length-le, get_or-eq_default}
-use lib.Seq.{take-suc, drop-cons, take-length, append_snoc, set-append_seam}
+use lib.ListN.{length, get_or, take, drop, set, replicate, drop_of_length-le}
+use lib.Seq.{take-suc, drop-cons, append_snoc, set-append_seam}
 use borrow.Author.Tests.{eq-eqb}
 use Rattle.zedboard_bsp.specs.Limits.{sector_number}
 use Rattle.qspi_operation.specs.Step.{is_going}
@@ -55,9 +58,6 @@ among_last a (c ∷ l) b = go (eqb c a) (among_last a l b)
 module _ (l : List ℕ) (a at : ℕ) (h : at < length l) where
   among_next : among a (take (suc at) l) ≡ among a (take at l) || eqb (get_or l at 0) a
   among_next = ap (among a) (take-suc l at 0 h) ∙ among_last a (take at l) (get_or l at 0)
-
-  pub not_yet : eqb (get_or l at 0) a ≡ false → among a (take at l) ≡ false → among a (take (at + 1) l) ≡ false
-  not_yet e f = let k : at + 1 ≡ suc at = omega arith in rw k (among_next ∙ ap (λ (x : Bool). x || eqb (get_or l at 0) a) f ∙ e)
 
 or_true : (x : Bool) → x || true ≡ true
 or_true true = refl
@@ -167,3 +167,28 @@ all_written l at xs h g w = let e : at ≡ 256 = omega arith in go (rw e at w)
 pub none_left : (k : ℕ) (l : List ℕ) (at : ℕ) (xs : List ℕ) → at + k ≡ 256 → length l ≤ at → Written l at xs → xs ≡ numbers_in 256 l
 none_left zero l at xs e h w = all_written l at xs (omega arith) (omega arith) w
 none_left (suc k) l at xs e h w = none_left k l (at + 1) xs (omega arith) (omega arith) (skips l at xs (omega arith) h w)
+
+-- the loop over the entries that are written: all, or 256
+module _ (l : List ℕ) (n : ℕ) (e : n ≡ min (length l) 256) (at : ℕ) (xs : List ℕ) (w : Written l at xs) where
+  n_list : n ≤ length l
+  n_list = omega (arith, e, min-le_left (length l) 256)
+
+  n_most : n ≤ 256
+  n_most = omega (arith, e, min-le_right (length l) 256)
+
+  taken : length (take n l) ≡ n
+  taken = length-take-le n l n_list
+
+  pub numbers_on : (v : ℕ) → at < length (take n l) → v ≡ sector_number (get_or (take n l) at 0) → Written l (at + 1) (set xs at v)
+  numbers_on v h f =
+      let k : at < n = omega (arith, h, taken) in
+      subst (λ (z : ℕ). Written l (at + 1) (set xs at z)) (sym (f ∙ ap sector_number (get_or-take n l at 0 k))) (writes l at xs (omega (arith, k, n_most)) (omega (arith, k, n_list)) w)
+
+  pub numbers_off : at ≤ length (take n l) → length (take n l) ≤ at → xs ≡ numbers_in 256 l
+  numbers_off h k = go (ltb 256 (length l)) refl
+    where
+      go : (b : Bool) → ltb 256 (length l) ≡ b → xs ≡ numbers_in 256 l
+      go true f =
+          let m : n ≡ 256 = e ∙ min-eq_right (let z : 256 < length l = ltb-true 256 (length l) f in omega (arith, z)) in
+          all_written l at xs (omega (arith, m, k, taken)) (omega (arith, m, h, taken)) w
+      go false f = let m : length l ≤ 256 = ltb-false 256 (length l) f in none_left (256 - at) l at xs (omega (arith, h, taken, n_most)) (let z : n ≡ length l = e ∙ min-eq_left m in omega (arith, z, k, taken)) w

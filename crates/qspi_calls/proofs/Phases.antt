@@ -3,7 +3,7 @@
 use mathlib.Core.Path.{◌≡◌, refl, ◌∙◌, sym}
 use mathlib.Core.Bool.{Bool, true, false, cond}
 use mathlib.Core.List.{List, [], ◌∷◌, ◌++◌, map, reverse}
-use Prim.Native.Nat.{ℕ, zero, suc, ◌+◌, ◌-◌, ◌*◌, ◌%◌, ◌^◌, ◌≤◌, ◌<◌}
+use Prim.Native.Nat.{ℕ, zero, suc, ◌+◌, ◌*◌, ◌%◌, ◌^◌, ◌≤◌, ◌<◌}
 use native.Mathlib.Omega.{arith}
 use lib.Dec.{ltb}
 use lib.ListN.{length, get_or, drop, drop_of_length-le}
@@ -12,8 +12,7 @@ use borrow.Author.Tests.{ltb-true, ltb-false, lt-ltb, le-ltb}
 use Rattle.qspi_transfer.specs.LowLevel.{chip_select_high, chip_select_low, started}
 use Rattle.qspi_transfer.specs.Wire.{choose, waits, at_phase, pick_wire, another_sent, word_sent, reply_taken, wire_next}
 use Rattle.qspi_transfer.specs.declared.Frame.{Frame}
-use Rattle.qspi_transfer.specs.declared.Moved.{Moved}
-use Rattle.qspi_transfer.specs.declared.Moved.TheVariants.{On, Over}
+use Rattle.std.specs.Prelude.{Option, Some, None}
 use Rattle.qspi_transfer.specs.declared.Phase.{Phase}
 use Rattle.qspi_transfer.specs.declared.Phase.TheVariants.{DrainStatus, DrainData, OpenRead, OpenWrite, Enable, Send, StartRead, StartWrite, Wait, WaitAgain, Take, CloseRead, CloseWrite, Disable}
 use Rattle.qspi_transfer.specs.declared.Wire.{Wire}
@@ -74,34 +73,34 @@ due_same job p bytes s h (p_closes e) = refl
 due_same job p bytes s h (p_end e) = refl
 
 -- what an access of value v does to a transfer
-pub data Goes (x : Transfer) (brings : List ℕ → List ℕ) (k : List ℕ → Script) (bs : List ℕ) (n₀ : ℕ) (u : Wire) (taken : List ℕ) : State → Moved → Type 0 where
-  goes_on : {w : Wire} {m : Midway} {a : Action} {l : List Action} {taken' : List ℕ} → AtPhase x w m a l taken' → Goes x brings k bs n₀ u taken (going m a l taken' brings k bs n₀) (On w)
-  goes_over : (c i b : ℕ) → u ≡ wire Disable c i b taken → length taken ≡ x.replies → Goes x brings k bs n₀ u taken (begin (k (reverse taken)) (bs ++ brings (reverse taken)) n₀) Over
+pub data Goes (x : Transfer) (brings : List ℕ → List ℕ) (k : List ℕ → Script) (bs : List ℕ) (n₀ : ℕ) (u : Wire) (taken : List ℕ) : State → Option Wire → Type 0 where
+  goes_on : {w : Wire} {m : Midway} {a : Action} {l : List Action} {taken' : List ℕ} → AtPhase x w m a l taken' → Goes x brings k bs n₀ u taken (going m a l taken' brings k bs n₀) (Some w)
+  goes_over : (c i b : ℕ) → u ≡ wire Disable c i b taken → length taken ≡ x.replies → Goes x brings k bs n₀ u taken (begin (k (reverse taken)) (bs ++ brings (reverse taken)) n₀) None
 
 module _ (x : Transfer) (brings : List ℕ → List ℕ) (k : List ℕ → Script) (bs : List ℕ) (n₀ : ℕ) (u : Wire) where
-  drained : (b : Bool) (c : ℕ) → Goes x brings k bs n₀ u [] (moves (cond b (stays full) over) drain (opening x) [] brings k bs n₀) (On (wire (choose b DrainData OpenRead) c 0 0 []))
+  drained : (b : Bool) (c : ℕ) → Goes x brings k bs n₀ u [] (moves (cond b (stays full) over) drain (opening x) [] brings k bs n₀) (Some (wire (choose b DrainData OpenRead) c 0 0 []))
   drained true c = goes_on p_data
   drained false c = goes_on p_open
 
   polled : (b t : Bool) (c i n j : ℕ) (taken : List ℕ) → t ≡ x.twice → n ≡ 4 * length taken → length taken + suc j ≡ x.replies
-      → Goes x brings k bs n₀ u taken (moves (cond b (stays (cond x.twice again ready)) (stays first)) (reply x.twice) (replicate j (reply x.twice) ++ closing) taken brings k bs n₀) (On (wire (choose b (choose t WaitAgain Take) Wait) c i n taken))
+      → Goes x brings k bs n₀ u taken (moves (cond b (stays (cond x.twice again ready)) (stays first)) (reply x.twice) (replicate j (reply x.twice) ++ closing) taken brings k bs n₀) (Some (wire (choose b (choose t WaitAgain Take) Wait) c i n taken))
   polled false t c i n j taken e f g = goes_on (p_wait j f g)
   polled true t c i n j taken e f g = rw e (go x.twice refl)
     where
-      go : (y : Bool) → x.twice ≡ y → Goes x brings k bs n₀ u taken (going (cond y again ready) (reply x.twice) (replicate j (reply x.twice) ++ closing) taken brings k bs n₀) (On (wire (choose y WaitAgain Take) c i n taken))
+      go : (y : Bool) → x.twice ≡ y → Goes x brings k bs n₀ u taken (going (cond y again ready) (reply x.twice) (replicate j (reply x.twice) ++ closing) taken brings k bs n₀) (Some (wire (choose y WaitAgain Take) c i n taken))
       go true z = goes_on (p_again j f g)
       go false z = goes_on (p_take j f g)
 
   polled_again_lem : (b : Bool) (c i n j : ℕ) (taken : List ℕ) → n ≡ 4 * length taken → length taken + suc j ≡ x.replies
-      → Goes x brings k bs n₀ u taken (moves (cond b (stays ready) (stays first)) (reply x.twice) (replicate j (reply x.twice) ++ closing) taken brings k bs n₀) (On (wire (choose b Take Wait) c i n taken))
+      → Goes x brings k bs n₀ u taken (moves (cond b (stays ready) (stays first)) (reply x.twice) (replicate j (reply x.twice) ++ closing) taken brings k bs n₀) (Some (wire (choose b Take Wait) c i n taken))
   polled_again_lem true c i n j taken f g = goes_on (p_take j f g)
   polled_again_lem false c i n j taken f g = goes_on (p_wait j f g)
 
   sent_one : (f : Frame) (c i : ℕ) → Same f x → i < length (words x)
-      → Goes x brings k bs n₀ u [] (proceed (map (write x.port) (drop (suc i) (words x)) ++ replying x) [] brings k bs n₀) (On (word_sent (wire Send c i 0 []) f))
+      → Goes x brings k bs n₀ u [] (proceed (map (write x.port) (drop (suc i) (words x)) ++ replying x) [] brings k bs n₀) (Some (word_sent (wire Send c i 0 []) f))
   sent_one f c i s h = go (ltb i f.words) refl
     where
-      go : (b : Bool) → ltb i f.words ≡ b → Goes x brings k bs n₀ u [] (proceed (map (write x.port) (drop (suc i) (words x)) ++ replying x) [] brings k bs n₀) (On (pick_wire b (another_sent (wire Send c i 0 [])) (at_phase (wire Send c i 0 []) StartRead)))
+      go : (b : Bool) → ltb i f.words ≡ b → Goes x brings k bs n₀ u [] (proceed (map (write x.port) (drop (suc i) (words x)) ++ replying x) [] brings k bs n₀) (Some (pick_wire b (another_sent (wire Send c i 0 [])) (at_phase (wire Send c i 0 []) StartRead)))
       go true e =
           let l : suc i < length (words x) = omega (arith, ltb-true i f.words e, s.further) in
           let n : i + 1 ≡ suc i = omega arith in
@@ -111,7 +110,7 @@ module _ (x : Transfer) (brings : List ℕ → List ℕ) (k : List ℕ → Scrip
           rw (drop_of_length-le x.further {i = i} l) (goes_on p_start)
 
   took_one : (f : Frame) (c i b j v : ℕ) (taken : List ℕ) → Same f x → b ≡ 4 * length taken → length taken + suc j ≡ x.replies
-      → Goes x brings k bs n₀ u taken (proceed (replicate j (reply x.twice) ++ closing) (v ∷ taken) brings k bs n₀) (On (reply_taken (wire Take c i b taken) f v))
+      → Goes x brings k bs n₀ u taken (proceed (replicate j (reply x.twice) ++ closing) (v ∷ taken) brings k bs n₀) (Some (reply_taken (wire Take c i b taken) f v))
   took_one f c i b zero v taken s e g =
       let m : (b + 4) % 2 ^ 32 ≡ b + 4 = omega (arith, s.few) in
       let n : ltb (b + 4) f.bytes ≡ false = le-ltb (b + 4) f.bytes (omega (arith, s.bytes)) in
@@ -125,10 +124,10 @@ module _ (x : Transfer) (brings : List ℕ → List ℕ) (k : List ℕ → Scrip
       rw (m, n) (goes_on (p_wait j o q))
 
   begun : (f : Frame) (c i : ℕ) → Same f x
-      → Goes x brings k bs n₀ u [] (proceed (replicate x.replies (reply x.twice) ++ closing) [] brings k bs n₀) (On (wire (choose (ltb 0 f.bytes) Wait CloseRead) c i 0 []))
+      → Goes x brings k bs n₀ u [] (proceed (replicate x.replies (reply x.twice) ++ closing) [] brings k bs n₀) (Some (wire (choose (ltb 0 f.bytes) Wait CloseRead) c i 0 []))
   begun f c i s = go x.replies refl
     where
-      go : (n : ℕ) → x.replies ≡ n → Goes x brings k bs n₀ u [] (proceed (replicate n (reply x.twice) ++ closing) [] brings k bs n₀) (On (wire (choose (ltb 0 f.bytes) Wait CloseRead) c i 0 []))
+      go : (n : ℕ) → x.replies ≡ n → Goes x brings k bs n₀ u [] (proceed (replicate n (reply x.twice) ++ closing) [] brings k bs n₀) (Some (wire (choose (ltb 0 f.bytes) Wait CloseRead) c i 0 []))
       go zero e =
           let n : ltb 0 f.bytes ≡ false = le-ltb 0 f.bytes (omega (arith, s.bytes)) in
           rw n (goes_on (p_close (sym e)))

@@ -10,9 +10,8 @@ use Rattle.qspi_script.specs.declared.Stage.TheVariants as stage
 use Rattle.qspi_script.specs.declared.Status.TheVariants.{Going, NotAligned, CrossesPageBoundary, EraseErrorBitSet, ProgrammingErrorBitSet, RepliesEnded, LogFull}
 use Rattle.qspi_script.specs.declared.Gives.TheVariants as gives
 use Rattle.qspi_operation.specs.declared.Op.{Op}
-use Rattle.qspi_operation.specs.declared.Reply.{Reply}
-use Rattle.qspi_operation.specs.declared.Reply.TheVariants.{Word}
-use Rattle.qspi_operation.specs.declared.Asked.TheVariants as asked
+use Rattle.std.specs.Prelude.{Option, Some, Ok}
+use Rattle.qspi_transfer.specs.declared.Due.TheVariants as due
 use Rattle.qspi_operation.specs.Machine.{runs, called}
 use Rattle.qspi_operation.specs.Points.{Lending}
 use Rattle.qspi_operation.specs.Follows.{op_after}
@@ -74,7 +73,7 @@ unfolding runs
 erase_refused = refl
 
 -- steps that are lent what the call was lent at its start are some of those of `Later`
-pub steps_later : (g : Lending) (rs : List Reply) (o₀ o : Op) → Later o₀ o → Later o₀ (op_after g rs o)
+pub steps_later : (g : Lending) (rs : List (Option ℕ)) (o₀ o : Op) → Later o₀ o → Later o₀ (op_after g rs o)
 steps_later g [] o₀ o l = l
 steps_later g (r ∷ rs) o₀ o l = steps_later g rs o₀ _ (then l g.bytes _ g.room r)
 
@@ -82,8 +81,8 @@ steps_later g (r ∷ rs) o₀ o l = steps_later g rs o₀ _ (then l g.bytes _ g.
 abbrev lent : Lending
 lent = record { bytes = zeros 240; buffer = []; room = 1000 }
 
-abbrev prompt : ℕ → List Reply
-prompt n = Word 0 ∷ replicate 11 (Word 0x10) ++ Word 0 ∷ replicate n (Word 0x10)
+abbrev prompt : ℕ → List (Option ℕ)
+prompt n = Some 0 ∷ replicate 11 (Some 0x10) ++ Some 0 ∷ replicate n (Some 0x10)
 
 abbrev programs_240 : ℕ → Op
 programs_240 n = op_after lent (prompt n) (start.program_of 0 240 1000)
@@ -95,7 +94,7 @@ pub reaches_244 : ((programs_240 249).wire.phase ≡ CloseRead) × ((programs_24
 reaches_244 = (refl, refl)
 
 -- a query shows an access
-pub shows_read : due_of (start.one_transfer stage.Enable gives.Nothing 100) [] ≡ asked.Read 0x04
+pub shows_read : due_of (start.one_transfer stage.Enable gives.Nothing 100) [] ≡ Ok (Some (due.Read 0x04))
 shows_read = refl
 
 -- a byte changes at the step that takes its reply
@@ -109,5 +108,5 @@ taking = record {
   status = Going;
 }
 
-pub byte_changes : buffer_of taking [] (0 ∷ []) 100 (Word 0xAB) ≡ 0xAB ∷ []
+pub byte_changes : buffer_of taking [] (0 ∷ []) 100 (Some 0xAB) ≡ 0xAB ∷ []
 byte_changes = refl

@@ -21,8 +21,7 @@ use Rattle.qspi_operation.proofs.Verdicts.{no}
 use Rattle.qspi_operation.proofs.Stops.{EndsWith, with_end, with_perform, with_repeat, with_count, with_either, answers, own_answer, full_when, dry_when}
 use Rattle.qspi_calls.specs.Chunks.{Chunk, chunks_in, chunks, Among, here, there}
 use Rattle.qspi_calls.specs.declared.start.Config.{Config}
-use Rattle.qspi_calls.specs.declared.start.Latency.{Latency}
-use Rattle.qspi_calls.specs.declared.start.Latency.TheVariants.{AsRead, Code}
+use Rattle.std.specs.Prelude.{Option, Some, None}
 use Rattle.qspi_calls.specs.Calls.{refused, clearing, status_reading, config_reading, erasing, programming, top}
 use Rattle.qspi_calls.specs.Calls as call
 use Rattle.qspi_calls.proofs.Pages.{within}
@@ -76,9 +75,9 @@ module _ {p : Status → Bool} where
 pub with_call_new : (p : Status → Bool) → p Done ≡ true → p FieldTooWide ≡ true → (c : Config) → EndsWith p (call.new_call c)
 with_call_new p d e c = go c.latency_config
   where
-    go : (l : Latency) → EndsWith p (call.new_latency l c.set_quad_bit_if_necessary c.clear_write_protection)
-    go AsRead = with_cleared d c.set_quad_bit_if_necessary false 0 c.clear_write_protection
-    go (Code v) = with_either (ltb 3 v) (with_end e) (with_cleared d c.set_quad_bit_if_necessary true v c.clear_write_protection)
+    go : (l : Option ℕ) → EndsWith p (call.new_latency l c.set_quad_bit_if_necessary c.clear_write_protection)
+    go None = with_cleared d c.set_quad_bit_if_necessary false 0 c.clear_write_protection
+    go (Some v) = with_either (ltb 3 v) (with_end e) (with_cleared d c.set_quad_bit_if_necessary true v c.clear_write_protection)
 
 -- THEOREM. Every call ends by itself with 0 to 22, so that 23 and 24 come only from the replies and the room.
 pub calls_own : {c : Script} → Call c → EndsWith own_answer c
@@ -120,14 +119,14 @@ equal a b = (eqb-true a b, eq-eqb a b)
 unequal : (a b : ℕ) → (eqb a b ≡ false) ↔ (a ≡ b → ⊥)
 unequal a b = (eqb-false a b, ne_eqb a b)
 
-as_read : {v : ℕ} → AsRead ≡ Code v → ◌≡◌ {A = ℕ} 0 1
+as_read : {v : ℕ} → None ≡ Some v → ◌≡◌ {A = ℕ} 0 1
 as_read e = cc
 
-abbrev code_of : Latency → ℕ
-code_of AsRead = 0
-code_of (Code v) = v
+abbrev code_of : Option ℕ → ℕ
+code_of None = 0
+code_of (Some v) = v
 
-coded : {v w : ℕ} → Code v ≡ Code w → v ≡ w
+coded : {v w : ℕ} → Some v ≡ Some w → v ≡ w
 coded e = ap code_of e
 
 -- the chunks of bytes in range end with anything but 1
@@ -286,15 +285,15 @@ module _ (room : ℕ) (replies : List ℕ) where
   read_ten fast dummy a n = Iff.trans (applies (ltb 4294967296 (a + n)) AddressSpan _ (never AddressSpan (with_reads refl n fast dummy a n) refl refl refl)) (below 4294967296 (a + n))
 
   -- 12: "latency above 3", where one is asked for
-  pub new_twelve : (c : Config) → Answers (call.new_call c) FieldTooWide ↔ ((v : ℕ) × ((c.latency_config ≡ Code v) × (3 < v)))
+  pub new_twelve : (c : Config) → Answers (call.new_call c) FieldTooWide ↔ ((v : ℕ) × ((c.latency_config ≡ Some v) × (3 < v)))
   new_twelve c = go c.latency_config
     where
       rest : (setLatency : Bool) (v : ℕ) → Answers (cleared c.set_quad_bit_if_necessary setLatency v c.clear_write_protection) FieldTooWide → ⊥
       rest setLatency v = never FieldTooWide (with_cleared refl c.set_quad_bit_if_necessary setLatency v c.clear_write_protection) refl refl refl
 
-      go : (l : Latency) → Answers (call.new_latency l c.set_quad_bit_if_necessary c.clear_write_protection) FieldTooWide ↔ ((v : ℕ) × ((l ≡ Code v) × (3 < v)))
-      go AsRead = (λ q. absurd (rest false 0 q), λ h. absurd (let z : ◌≡◌ {A = ℕ} 0 1 = as_read h.1.0 in omega (arith, z)))
-      go (Code v) =
+      go : (l : Option ℕ) → Answers (call.new_latency l c.set_quad_bit_if_necessary c.clear_write_protection) FieldTooWide ↔ ((v : ℕ) × ((l ≡ Some v) × (3 < v)))
+      go None = (λ q. absurd (rest false 0 q), λ h. absurd (let z : ◌≡◌ {A = ℕ} 0 1 = as_read h.1.0 in omega (arith, z)))
+      go (Some v) =
           Iff.trans (applies (ltb 3 v) FieldTooWide _ (rest true v))
           (λ e. (v, (refl, ltb-true 3 v e)), λ h. lt-ltb 3 v (let z : v ≡ h.0 = coded h.1.0 in omega (arith, z, h.1.1)))
 

@@ -10,12 +10,12 @@ use lib.Seq.{take-nil, drop-nil}
 use borrow.Author.Tests.{ltb-false, le-leb, lt-leb, eq-eqb, ne_eqb, eqb-true, eqb-false}
 use Rattle.zynq7000.specs.Bits.{flag_value}
 use Rattle.zynq7000_hal.specs.Fifo.{prefilled}
-use Rattle.qspi_transfer.specs.declared.Moved.{Moved}
+use Rattle.std.specs.Prelude.{Option}
 use Rattle.qspi_transfer.specs.declared.Phase.TheVariants as phase
 use Rattle.qspi_transfer.specs.declared.Wire.{Wire}
 use Rattle.qspi_script.specs.Stages.{frame_of, due_word}
 use Rattle.zedboard_bsp.specs.Limits.{largest_chunk}
-use Rattle.qspi_script.specs.Turns.{next_chunk, pick, pick_next, read_on, finish}
+use Rattle.qspi_script.specs.Turns.{next_chunk, pick_next, read_on, finish}
 use Rattle.qspi_script.specs.declared.Stage.TheVariants as stage
 use Rattle.qspi_script.specs.declared.Status.{Status}
 use Rattle.qspi_script.specs.declared.Status.TheVariants.{Going, Done, AddressSpan}
@@ -143,7 +143,7 @@ module _ (fast dummy : Bool) (a n : ℕ) (log old : List ℕ) (span : a + n ≤ 
       rw (m, q, r)
       (turned f (d + chunk d) (n - (d + chunk d)) (bs ++ bytes_read dummy (chunk d) (reverse taken)) (wire phase.Disable c i b taken) (omega arith) y refl (omega (arith, flag_le dummy)))
 
-  rel_moved : {p : Place} {x : Transfer} {brings : List ℕ → List ℕ} {k : List ℕ → Script} {bs : List ℕ} {w : Wire} {taken : List ℕ} {z : State} {y : Moved} → ReadAt p x brings k bs → Goes x brings k bs 0 w taken z y
+  rel_moved : {p : Place} {x : Transfer} {brings : List ℕ → List ℕ} {k : List ℕ → Script} {bs : List ℕ} {w : Wire} {taken : List ℕ} {z : State} {y : Option Wire} → ReadAt p x brings k bs → Goes x brings k bs 0 w taken z y
       → Rel (moved_by y (o p w) 0 0).op.place (moved_by y (o p w) 0 0).op.wire (moved_by y (o p w) 0 0).op.status z
   rel_moved q (goes_on g) = rel_on q g
   rel_moved {taken = taken} (read_at {f} {d} {bs} h e g) (goes_over c i b u t) = rw u (turn_at f d bs c i b taken h e g t)

@@ -14,14 +14,12 @@ use Rattle.qspi_transfer.proofs.ReadIndex.{never_wraps}
 use Rattle.qspi_transfer.specs.declared.Due.{Due}
 use Rattle.qspi_transfer.specs.declared.Due.TheVariants as due
 use Rattle.qspi_transfer.specs.declared.Frame.{Frame}
-use Rattle.qspi_transfer.specs.declared.Moved.{Moved}
-use Rattle.qspi_transfer.specs.declared.Moved.TheVariants.{On, Over}
 use Rattle.qspi_transfer.specs.declared.Phase.{Phase}
 use Rattle.qspi_transfer.specs.declared.Phase.TheVariants.{DrainStatus, DrainData, OpenRead, OpenWrite, Enable, Send, StartRead, StartWrite, Wait, WaitAgain, Take, CloseRead, CloseWrite, Disable, Registers}
 use Rattle.qspi_transfer.specs.declared.Wire.{Wire}
 use Rattle.qspi_script.specs.Stages.{frame_of, chunk_address}
 use Rattle.zedboard_bsp.specs.Limits.{largest_chunk}
-use Rattle.qspi_script.specs.Turns.{turn_of, pick, begin, finish, settled, settled_by, page_at, grown, next_page, next_chunk}
+use Rattle.qspi_script.specs.Turns.{turn_of, pick, begin, finish, settled, settled_by, page_at, next_page, next_chunk}
 use Rattle.qspi_script.specs.declared.Stage.{Stage}
 use Rattle.qspi_script.specs.declared.Stage.TheVariants as stage
 use Rattle.qspi_script.specs.declared.Status.{Status}
@@ -32,9 +30,8 @@ use Rattle.qspi_script.specs.declared.Job.{Job}
 use Rattle.qspi_script.specs.declared.Place.{Place}
 use Rattle.qspi_script.specs.declared.Turned.{Turned}
 use Rattle.qspi_operation.specs.declared.Op.{Op}
-use Rattle.qspi_operation.specs.declared.Reply.{Reply}
-use Rattle.qspi_operation.specs.declared.Reply.TheVariants.{Word, Nothing}
-use Rattle.qspi_operation.specs.declared.Verdict.TheVariants.{Ended, Changed, Full}
+use Rattle.std.specs.Prelude.{Option, Some, None}
+use Rattle.qspi_operation.specs.Step.{Ended, Changed, Full}
 use Rattle.qspi_operation.specs.Step.{is_going, access_of, answered, same_lengths, act, moved, moved_by, counted, step_of}
 use Rattle.qspi_operation.specs.Step as step
 use Rattle.qspi_operation.proofs.Verdicts.{no}
@@ -43,7 +40,7 @@ use Rattle.qspi_calls.specs.Starts as start
 -- an operation after any number of steps, whatever each of them is lent and handed
 pub data Later (o : Op) : Op → Type 0 where
   now : Later o o
-  then : {p : Op} → Later o p → (bytes : List ℕ) (buffer room : ℕ) (r : Reply) → Later o (step_of p bytes buffer room r).op
+  then : {p : Op} → Later o p → (bytes : List ℕ) (buffer room : ℕ) (r : Option ℕ) → Later o (step_of p bytes buffer room r).op
 
 -- a reply is to come
 abbrev awaits : Phase → Bool
@@ -71,9 +68,9 @@ record Sound (f : Frame) (w : Wire) : Type 0 where
   pub within : w.read_index ≤ f.bytes
   pub more : awaits w.phase ≡ true → w.read_index < f.bytes
 
-abbrev SoundMoved : Frame → Moved → Type 0
-SoundMoved f (On w) = Sound f w
-SoundMoved f Over = Unit {0}
+abbrev SoundMoved : Frame → Option Wire → Type 0
+SoundMoved f (Some w) = Sound f w
+SoundMoved f None = Unit {0}
 
 module _ (f : Frame) (w : Wire) (v : ℕ) (s : Sound f w) where
   -- a phase in which no reply is to come
@@ -99,7 +96,7 @@ module _ (f : Frame) (w : Wire) (v : ℕ) (s : Sound f w) where
   started true e = record { fours = s.fours; within = s.within; more = λ h. ltb-true w.read_index f.bytes e }
   started false e = rests CloseRead refl
 
-  registered : (b : Bool) → SoundMoved f (pick_moved b (On (another_register w v)) Over)
+  registered : (b : Bool) → SoundMoved f (pick_moved b (Some (another_register w v)) None)
   registered true = record { fours = s.fours; within = s.within; more = λ h. no h }
   registered false = tt
 
@@ -195,22 +192,22 @@ module _ (job : Job) (limit : ℕ) (small : limit < 2 ^ 32) (At : Place → Type
     moves : (u' i' v : ℕ) → Held (moved (op p w u i a) u' i' v).op
     moves u' i' v = go (wire_next w (frame_of job p) v) (sound_next (frame_of job p) w v s (h.fours p q) (omega (arith, h.most p q, small)))
       where
-        go : (m : Moved) → SoundMoved (frame_of job p) m → Held (moved_by m (op p w u i a) u' i').op
-        go (On x) k = goes q k
-        go Over k = turned (turn_of job p w.last) (h.turn p q w.last) u' i'
+        go : (m : Option Wire) → SoundMoved (frame_of job p) m → Held (moved_by m (op p w u i a) u' i').op
+        go (Some x) k = goes q k
+        go None k = turned (turn_of job p w.last) (h.turn p q w.last) u' i'
 
-    stepped : (bytes : List ℕ) (buffer room : ℕ) (r : Reply) → Held (step_of (op p w u i a) bytes buffer room r).op
+    stepped : (bytes : List ℕ) (buffer room : ℕ) (r : Option ℕ) → Held (step_of (op p w u i a) bytes buffer room r).op
     stepped bytes buffer room r = go (is_going a) (same_lengths job (length bytes) buffer room) (leb (u + 2) room) (access_of job p w bytes) r
       where
-        go : (g l f : Bool) (x : Due) (r : Reply) → Held (act (step.choose g (step.choose l (step.choose f (answered x r) Full) Changed) Ended) (op p w u i a)).op
+        go : (g l f : Bool) (x : Due) (r : Option ℕ) → Held (act (step.choose g (step.choose l (step.choose f (answered x r) Full) Changed) Ended) (op p w u i a)).op
         go false l f x r = goes q s
         go true false f x r = goes q s
         go true true false x r = over refl (bound_of p w q s)
-        go true true true (due.Read k) (Word v) = moves (u + 2) (counted true i) v
-        go true true true (due.Read k) Nothing = over refl (bound_of p w q s)
+        go true true true (due.Read k) (Some v) = moves (u + 2) (counted true i) v
+        go true true true (due.Read k) None = over refl (bound_of p w q s)
         go true true true (due.Write k v) r = moves (u + 2) (counted false i) v
 
-  held_step : {o : Op} (bytes : List ℕ) (buffer room : ℕ) (r : Reply) → Held o → Held (step_of o bytes buffer room r).op
+  held_step : {o : Op} (bytes : List ℕ) (buffer room : ℕ) (r : Option ℕ) → Held o → Held (step_of o bytes buffer room r).op
   held_step bytes buffer room r (goes {p} {w} {u} {i} {a} q s) = stepped p w u i a q s bytes buffer room r
   held_step bytes buffer room r (over {p} {w} {u} {i} {a} e b) = rw e (over e b)
 
@@ -220,7 +217,7 @@ module _ (job : Job) (limit : ℕ) (small : limit < 2 ^ 32) (At : Place → Type
 
 -- a step that takes a reply: 4 more
 takes_four : (o : Op) (bytes : List ℕ) (buffer room v limit : ℕ) → Bound limit o.wire → o.wire.phase ≡ Take → is_going o.status ≡ true → same_lengths o.job (length bytes) buffer room ≡ true → o.used + 2 ≤ room
-    → (step_of o bytes buffer room (Word v)).op.wire.read_index ≡ o.wire.read_index + 4
+    → (step_of o bytes buffer room (Some v)).op.wire.read_index ≡ o.wire.read_index + 4
 takes_four o bytes buffer room v limit b t g l f =
     let k : leb (o.used + 2) room ≡ true = le-leb (o.used + 2) room f in
     rw (g, l, k, t) (b.exact t)
@@ -230,7 +227,7 @@ pub record Never (limit : ℕ) (o : Op) : Type 0 where
   pub most : o.wire.read_index ≤ limit
   pub before : o.wire.phase ≡ Take → o.wire.read_index + 4 ≤ limit
   pub four : (bytes : List ℕ) (buffer room v : ℕ) → o.wire.phase ≡ Take → is_going o.status ≡ true → same_lengths o.job (length bytes) buffer room ≡ true → o.used + 2 ≤ room
-      → (step_of o bytes buffer room (Word v)).op.wire.read_index ≡ o.wire.read_index + 4
+      → (step_of o bytes buffer room (Some v)).op.wire.read_index ≡ o.wire.read_index + 4
 
 never_of : (limit : ℕ) (o : Op) → Bound limit o.wire → Never limit o
 never_of limit o b = record { most = b.most; before = b.before; four = λ bytes buffer room v t g l f. takes_four o bytes buffer room v limit b t g l f }

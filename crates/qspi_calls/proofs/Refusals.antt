@@ -17,8 +17,7 @@ use Rattle.qspi_operation.proofs.Verdicts.{no}
 use Rattle.qspi_operation.proofs.Stops.{EndsWith, with_end, with_perform, answers}
 use Rattle.qspi_calls.specs.Chunks.{Chunk, chunks}
 use Rattle.qspi_calls.specs.Promise.{logged_of, buffered_of}
-use Rattle.qspi_calls.specs.declared.start.Latency.{Latency}
-use Rattle.qspi_calls.specs.declared.start.Latency.TheVariants.{AsRead, Code}
+use Rattle.std.specs.Prelude.{Option, Some, None}
 use Rattle.qspi_calls.specs.Calls.{refused, erasing, programming}
 use Rattle.qspi_calls.specs.Calls as call
 use Rattle.qspi_calls.proofs.Precisely.{with_working, with_cleared, with_protecting, with_reads, at_once, pages_one}
@@ -98,9 +97,9 @@ at_its_start (write_status sr) p = goes (with_perform (λ rs. with_perform (λ r
 at_its_start (write_registers sr cr) p = goes (with_perform (λ rs. with_perform (λ rs. with_end refl)))
 at_its_start (new c) p = go c.latency_config
   where
-    go : (l : Latency) → AtOnce (call.new_latency l c.set_quad_bit_if_necessary c.clear_write_protection)
-    go AsRead = goes (with_cleared refl c.set_quad_bit_if_necessary false 0 c.clear_write_protection)
-    go (Code v) = if (ltb 3 v) FieldTooWide (goes (with_cleared refl c.set_quad_bit_if_necessary true v c.clear_write_protection))
+    go : (l : Option ℕ) → AtOnce (call.new_latency l c.set_quad_bit_if_necessary c.clear_write_protection)
+    go None = goes (with_cleared refl c.set_quad_bit_if_necessary false 0 c.clear_write_protection)
+    go (Some v) = if (ltb 3 v) FieldTooWide (goes (with_cleared refl c.set_quad_bit_if_necessary true v c.clear_write_protection))
 at_its_start (set_write_protection v) p = if (ltb 7 v) _ (goes (with_protecting refl v))
 at_its_start (erase_sector a) p = if (ltb 16777215 (a + 65536)) _ (unless (eqb (a % 65536) 0) _ (goes (with_working 5 _ (erasing a) refl (with_end refl))))
 at_its_start (program a bs) p =

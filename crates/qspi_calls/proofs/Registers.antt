@@ -19,8 +19,7 @@ use Rattle.zedboard_bsp.specs.Registers.{update_needed}
 use Rattle.zedboard_bsp.specs.Limits.{largest_chunk}
 use Rattle.qspi_script.specs.declared.Status.{Status}
 use Rattle.qspi_calls.specs.declared.start.Config.{Config}
-use Rattle.qspi_calls.specs.declared.start.Latency.{Latency}
-use Rattle.qspi_calls.specs.declared.start.Latency.TheVariants.{AsRead, Code}
+use Rattle.std.specs.Prelude.{Option, Some, None}
 use Rattle.qspi_calls.specs.Chunks.{Chunk, chunks}
 use Rattle.qspi_operation.specs.Machine.{Action, write, modify, drain, reply, Midway, first, full, changed, again, ready, Want, reads, writes, nothing, want_at, Progress, stays, over, takes, progress, Transfer, replicate, replying, opening, Script, ends, perform, repeats, counts, exchange, State, going, ended, onward, begin, proceed, moves, want, next, Result, no_room, made, runs, called}
 use Rattle.qspi_calls.specs.Calls as call
@@ -160,9 +159,9 @@ new_with_lem quad setLatency latency clear =
     either (ltb 3 latency) on_end
     (exchanges register.TxData01 call.clearing refl (λ rs. either (quad || (setLatency || clear)) (configures quad setLatency latency clear) on_end))
 
-new_latency_lem : (l : Latency) (quad clear : Bool) → OnRegisters (call.new_latency l quad clear)
-new_latency_lem AsRead quad clear = new_with_lem quad false 0 clear
-new_latency_lem (Code c) quad clear = new_with_lem quad true c clear
+new_latency_lem : (l : Option ℕ) (quad clear : Bool) → OnRegisters (call.new_latency l quad clear)
+new_latency_lem None quad clear = new_with_lem quad false 0 clear
+new_latency_lem (Some c) quad clear = new_with_lem quad true c clear
 
 pub works : (bit : ℕ) (failure : Status) (x : Transfer) → x.port ≡ offset_of register.TxData00 → {then : Script} → OnRegisters then → OnRegisters (call.working bit failure x then)
 works bit failure x e h =

@@ -7,7 +7,7 @@ use Prim.Native.Nat.{ℕ, ◌+◌, ◌<◌}
 use native.Mathlib.Omega.{arith}
 use lib.ListN.{length, get_or}
 use Rattle.qspi_transfer.specs.Wire.{fresh_wire, pick_wire}
-use Rattle.qspi_transfer.specs.declared.Moved.{Moved}
+use Rattle.std.specs.Prelude.{Option}
 use Rattle.qspi_transfer.specs.declared.Phase.TheVariants.{DrainStatus, Disable}
 use Rattle.qspi_transfer.specs.declared.Wire.{Wire}
 use Rattle.qspi_script.specs.Stages.{frame_of, due_word}
@@ -74,7 +74,7 @@ module _ (job : Job) (bytes buffer₀ : List ℕ) (At : Place → Transfer → (
     turned w t (over g e c f) = rw (e, g) (rel_over c g f)
     turned w t (more h) = turned w t h
 
-    rel_moved : (p : Place) {x : Transfer} {k : List ℕ → Script} {w : Wire} {taken : List ℕ} {z : State} {y : Moved} → At p x k → Goes x none k [] (counted_at job p) w taken z y
+    rel_moved : (p : Place) {x : Transfer} {k : List ℕ → Script} {w : Wire} {taken : List ℕ} {z : State} {y : Option Wire} → At p x k → Goes x none k [] (counted_at job p) w taken z y
         → Rel (moved_by y (o p w) 0 0).op.place (moved_by y (o p w) 0 0).op.wire (moved_by y (o p w) 0 0).op.status z
     rel_moved p q (goes_on g) = rel_on refl q g
     rel_moved p {x} {k} {w} {taken} q (goes_over c i b e f) = rw e (turned (wire Disable c i b taken) (turn_of job p (get_or taken 0 0)) (s.turn p x k q c i b taken f))

@@ -32,8 +32,7 @@ use Rattle.qspi_calls.specs.Calls as call
 use Rattle.qspi_calls.specs.Calls.{enabling, disabling, clearing, status_reading, config_reading, status_writing, registers_writing, top, done, refused}
 use Rattle.qspi_calls.specs.Starts as start
 use Rattle.qspi_calls.specs.declared.start.Config.{Config}
-use Rattle.qspi_calls.specs.declared.start.Latency.{Latency}
-use Rattle.qspi_calls.specs.declared.start.Latency.TheVariants.{AsRead, Code}
+use Rattle.std.specs.Prelude.{Option, Some, None, is_some, unwrap_or}
 use Rattle.qspi_calls.proofs.Phases.{wire, words, Same, p_drain}
 use Rattle.qspi_calls.proofs.Scripted.{Turns, on, again, over, Scripted, Rel, rel_on, script_tie, turned, rel_bytes}
 use Rattle.qspi_calls.proofs.Short.{of_one, same_short, word_short, ended_at_start}
@@ -145,9 +144,15 @@ write_registers_lem sr cr log = enabled_then_lem stage.WriteRegisters (registers
 
 -- ---- new
 
-module _ (quad setLatency : Bool) (latency : ℕ) (clear : Bool) (log : List ℕ) where
+module _ (quad : Bool) (asked : Option ℕ) (clear : Bool) (log : List ℕ) where
+  abbrev setLatency : Bool
+  setLatency = is_some asked
+
+  abbrev latency : ℕ
+  latency = unwrap_or asked 0
+
   abbrev new_job : Job
-  new_job = start.configuring_job quad setLatency latency clear (length log)
+  new_job = start.configuring_job quad asked clear (length log)
 
   abbrev decided : ℕ → List ℕ → Script
   decided cr ss = onward (update_needed quad setLatency latency clear cr (top ss)) (call.write_registers (configured_sr clear (top ss)) (configured_cr quad setLatency latency cr)) (ends Done [])
@@ -199,7 +204,7 @@ module _ (quad setLatency : Bool) (latency : ℕ) (clear : Bool) (log : List ℕ
   new_scripted : Scripted new_job [] [] New
   new_scripted = record { same = n_same; word = n_word; turn = n_turn; unread = n_unread }
 
-  pub new_with_lem : Starts (start.new_with quad setLatency latency clear (length log)) [] log [] (call.new_with quad setLatency latency clear)
+  pub new_with_lem : Starts (start.new_with quad asked clear (length log)) [] log [] (call.new_with quad setLatency latency clear)
   new_with_lem =
       either [] log (ltb 3 latency) (λ e. ended_at_start new_job [] log [] FieldTooWide refl (λ w. refl) refl refl refl)
       (λ e. begins new_job [] log New new_scripted _ _ _ new_clear refl refl refl refl)
@@ -388,6 +393,6 @@ program a bytes log =
 pub new_call_lem : (config : Config) (log : List ℕ) → Starts (start.new_of config (length log)) [] log [] (call.new_call config)
 new_call_lem config log = go config.latency_config
   where
-    go : (l : Latency) → Starts (start.new_latency l config.set_quad_bit_if_necessary config.clear_write_protection (length log)) [] log [] (call.new_latency l config.set_quad_bit_if_necessary config.clear_write_protection)
-    go AsRead = new_with_lem config.set_quad_bit_if_necessary false 0 config.clear_write_protection log
-    go (Code c) = new_with_lem config.set_quad_bit_if_necessary true c config.clear_write_protection log
+    go : (l : Option ℕ) → Starts (start.new_with config.set_quad_bit_if_necessary l config.clear_write_protection (length log)) [] log [] (call.new_latency l config.set_quad_bit_if_necessary config.clear_write_protection)
+    go None = new_with_lem config.set_quad_bit_if_necessary None config.clear_write_protection log
+    go (Some c) = new_with_lem config.set_quad_bit_if_necessary (Some c) config.clear_write_protection log

@@ -13,15 +13,15 @@ use Rattle.zynq7000_hal.specs.Clocks.{baud_of}
 use Rattle.zynq7000_hal.specs.Initialize.{initial_config, initialized_answer, initialize_answer, loopback_words, written_words}
 use Rattle.zynq7000_hal.specs.declared.qspi.ClockConfig.{ClockConfig}
 use Rattle.zynq7000_hal.specs.declared.qspi.InitializeWords.{InitializeWords}
-use Rattle.zynq7000_hal.specs.declared.qspi.Initialization.{Initialization}
-use Rattle.zynq7000_hal.specs.declared.qspi.Initialization.TheVariants as initialization
+use Rattle.zynq7000_hal.specs.declared.qspi.FieldTooWide.{FieldTooWide as too_wide_error}
+use Rattle.std.specs.Prelude.{Result, Ok, Err}
 
 pub record Worded (w : InitializeWords) (c : ClockConfig) (phase polarity : Bool) : Type 0 where
   pub narrow : ltb 63 c.ref_clk_div ≡ false
   pub config : w.config ≡ config_word (initial_config (baud_of c.baud_rate_config) phase polarity)
   pub clock : w.lqspi_clk_ctrl ≡ clock_control_word c.ref_clk_div (source_code c.src_sel) 1
 
-pub worded : {i : Initialization} {w : InitializeWords} (c : ClockConfig) (phase polarity : Bool) → initialized_answer i ≡ initialize_answer c phase polarity → i ≡ initialization.Words w → Worded w c phase polarity
+pub worded : {i : Result InitializeWords too_wide_error} {w : InitializeWords} (c : ClockConfig) (phase polarity : Bool) → initialized_answer i ≡ initialize_answer c phase polarity → i ≡ Ok w → Worded w c phase polarity
 worded {w = w} c phase polarity h e = go (ltb 63 c.ref_clk_div) refl (sym (ap initialized_answer e) ∙ h)
   where
     go : (b : Bool) → ltb 63 c.ref_clk_div ≡ b
@@ -31,7 +31,7 @@ worded {w = w} c phase polarity h e = go (ltb 63 c.ref_clk_div) refl (sym (ap in
     go true f g = absurd (let z : ◌≡◌ {A = ℕ} 0 12 = ap (λ (a : Answer). a.number) g in omega arith)
     go false f g = record { narrow = f; config = ap (λ (a : Answer). get_or a.values 1 0) g; clock = ap (λ (a : Answer). get_or a.values 0 0) g }
 
-pub too_wide : {i : Initialization} (c : ClockConfig) (phase polarity : Bool) → initialized_answer i ≡ initialize_answer c phase polarity → i ≡ initialization.FieldTooWide → ltb 63 c.ref_clk_div ≡ true
+pub too_wide : {i : Result InitializeWords too_wide_error} {e : too_wide_error} (c : ClockConfig) (phase polarity : Bool) → initialized_answer i ≡ initialize_answer c phase polarity → i ≡ Err e → ltb 63 c.ref_clk_div ≡ true
 too_wide c phase polarity h e = go (ltb 63 c.ref_clk_div) refl (sym (ap initialized_answer e) ∙ h)
   where
     go : (b : Bool) → ltb 63 c.ref_clk_div ≡ b

@@ -14,8 +14,6 @@ use Rattle.zynq7000.specs.declared.qspi.Access.{Access}
 use Rattle.zynq7000.specs.declared.qspi.Access.TheVariants as access
 use Rattle.qspi_transfer.specs.declared.Due.{Due}
 use Rattle.qspi_transfer.specs.declared.Due.TheVariants as due
-use Rattle.qspi_transfer.specs.declared.Moved.{Moved}
-use Rattle.qspi_transfer.specs.declared.Moved.TheVariants.{On, Over}
 use Rattle.qspi_transfer.specs.declared.Wire.{Wire}
 use Rattle.qspi_transfer.specs.Wire.{wire_next}
 use Rattle.qspi_script.specs.Stages.{frame_of}
@@ -26,10 +24,9 @@ use Rattle.qspi_script.specs.declared.Job.{Job}
 use Rattle.qspi_script.specs.declared.Place.{Place}
 use Rattle.qspi_script.specs.Answer.{said_by, values_of}
 use Rattle.qspi_operation.specs.declared.Op.{Op}
-use Rattle.qspi_operation.specs.declared.Reply.{Reply}
-use Rattle.qspi_operation.specs.declared.Reply.TheVariants.{Word, Nothing}
-use Rattle.qspi_operation.specs.declared.Verdict.{Verdict}
-use Rattle.qspi_operation.specs.declared.Verdict.TheVariants.{Full}
+use Rattle.std.specs.Prelude.{Option, Some, None}
+use Rattle.qspi_operation.specs.Step.{Verdict}
+use Rattle.qspi_operation.specs.Step.{Full}
 use Rattle.qspi_operation.specs.Store.{stored}
 use Rattle.qspi_operation.specs.Step.{is_going, access_of, shown, answered, choose, same_lengths, verdict_of, act, moved, moved_by, noted, taken, written, step_of, log_of, buffer_of, counted_at}
 use Rattle.qspi_operation.specs.Machine.{Want, reads, writes, nothing, State, going, ended, want, next, status_in, values_in, bytes_in, count_in, begin, Script, overlaid, reads_of}
@@ -98,22 +95,22 @@ module _ (job : Job) (g : Lending) (lent : job.lent ≡ lengths_of g) (fits : g.
   moved_is : (p : Place) (w : Wire) (u i u' i' v : ℕ) → (moved (op p w u i Going) u' i' v).op ≡ op (after job p w v).place (after job p w v).wire u' i' (after job p w v).status
   moved_is p w u i u' i' v = go (wire_next w (frame_of job p) v)
     where
-      go : (m : Moved) → (moved_by m (op p w u i Going) u' i').op ≡ op (moved_by m (op p w 0 0 Going) 0 0).op.place (moved_by m (op p w 0 0 Going) 0 0).op.wire u' i' (moved_by m (op p w 0 0 Going) 0 0).op.status
-      go (On x) = refl
-      go Over = refl
+      go : (m : Option Wire) → (moved_by m (op p w u i Going) u' i').op ≡ op (moved_by m (op p w 0 0 Going) 0 0).op.place (moved_by m (op p w 0 0 Going) 0 0).op.wire u' i' (moved_by m (op p w 0 0 Going) 0 0).op.status
+      go (Some x) = refl
+      go None = refl
 
   same_all : same_lengths job (length g.bytes) (length g.buffer) g.room ≡ true
   same_all = rw (lent, eq-eqb (length g.bytes) (length g.bytes) refl, eq-eqb (length g.buffer) (length g.buffer) refl, eq-eqb g.room g.room refl)
 
   -- one of two, by whether there is room
-  abbrev judged : Bool → Want → Reply → Verdict
+  abbrev judged : Bool → Want → Option ℕ → Verdict
   judged b x r = choose b (answered (asked x) r) Full
 
   module _ {p : Place} {w : Wire} {s : State} (l : List Access) (q : Rel p w Going s) (z : Wide s) where
     abbrev o : Op
     o = op p w (2 * length l) (reads_of l) Going
 
-    verdict_is : (r : Reply) → verdict_of o g.bytes (length g.buffer) g.room r ≡ judged (leb (2 * length l + 2) g.room) (want s) r
+    verdict_is : (r : Option ℕ) → verdict_of o g.bytes (length g.buffer) g.room r ≡ judged (leb (2 * length l + 2) g.room) (want s) r
     verdict_is r = rw (same_all, t.due p w s q)
 
     wide_next : (v : ℕ) → Wide (next s v)
@@ -125,15 +122,15 @@ module _ (job : Job) (g : Lending) (lent : job.lent ≡ lengths_of g) (fits : g.
     made_one : (v i : ℕ) (a : Access) → i ≡ reads_of (l ++ a ∷ []) → 2 * length l + 2 ≤ g.room → Inv (reached (next s v) (l ++ a ∷ [])) (moved o (2 * length l + 2) i v).op
     made_one v i a e h = rw (moved_is p w (2 * length l) (reads_of l) (2 * length l + 2) i v) (settled (l ++ a ∷ []) (2 * length l + 2) i (t.steps p w s v q) (sym (long_last l a)) e h (wide_next v))
 
-    step_by : (b : Bool) → leb (2 * length l + 2) g.room ≡ b → (x : Want) → want s ≡ x → (r : Reply) → Inv (room_for b x r (at s l Going)) (act (judged b x r) o).op
+    step_by : (b : Bool) → leb (2 * length l + 2) g.room ≡ b → (x : Want) → want s ≡ x → (r : Option ℕ) → Inv (room_for b x r (at s l Going)) (act (judged b x r) o).op
     step_by b e nothing f r = absurd (t.some p w s q f)
     step_by false e (reads k) f r = stops LogFull refl refl
     step_by false e (writes k v) f r = stops LogFull refl refl
-    step_by true e (reads k) f (Word v) =
+    step_by true e (reads k) f (Some v) =
         let h = leb-true (2 * length l + 2) g.room e in
         let i : (reads_of l + 1) % 2 ^ 64 ≡ reads_of (l ++ access.Read k v ∷ []) = omega (arith, reads_last l (access.Read k v), reads_few l, h, fits) in
         made_one v _ (access.Read k v) i h
-    step_by true e (reads k) f Nothing = stops RepliesEnded refl refl
+    step_by true e (reads k) f None = stops RepliesEnded refl refl
     step_by true e (writes k v) f r =
         let i : reads_of l ≡ reads_of (l ++ access.Write k v ∷ []) = omega (arith, reads_last l (access.Write k v)) in
         made_one v _ (access.Write k v) i (leb-true (2 * length l + 2) g.room e)
@@ -146,21 +143,21 @@ module _ (job : Job) (g : Lending) (lent : job.lent ≡ lengths_of g) (fits : g.
     two : (log : List ℕ) (x y : ℕ) → written log (2 * length l) x y ≡ sets log (2 * length l) (x ∷ y ∷ [])
     two log x y = let e : 2 * length l + 1 ≡ suc (2 * length l) = add-one (2 * length l) in rw e
 
-    log_by : (b : Bool) (x : Want) → want s ≡ x → (r : Reply) (log : List ℕ) → noted (judged b x r) (2 * length l) log ≡ sets log (2 * length l) (encode (access_if b x r))
+    log_by : (b : Bool) (x : Want) → want s ≡ x → (r : Option ℕ) (log : List ℕ) → noted (judged b x r) (2 * length l) log ≡ sets log (2 * length l) (encode (access_if b x r))
     unfolding encode
     log_by b nothing f r log = absurd (t.some p w s q f)
     log_by false (reads k) f r log = refl
     log_by false (writes k v) f r log = refl
-    log_by true (reads k) f (Word v) log = two log (0x100 + k) v
-    log_by true (reads k) f Nothing log = refl
+    log_by true (reads k) f (Some v) log = two log (0x100 + k) v
+    log_by true (reads k) f None log = refl
     log_by true (writes k v) f r log = two log k v
 
-    buffer_by : (b : Bool) (x : Want) → want s ≡ x → (r : Reply) → taken (judged b x r) o (overlaid (bytes_in s) g.buffer) ≡ overlaid (bytes_in (room_for b x r (at s l Going)).state) g.buffer
+    buffer_by : (b : Bool) (x : Want) → want s ≡ x → (r : Option ℕ) → taken (judged b x r) o (overlaid (bytes_in s) g.buffer) ≡ overlaid (bytes_in (room_for b x r (at s l Going)).state) g.buffer
     buffer_by b nothing f r = absurd (t.some p w s q f)
     buffer_by false (reads k) f r = refl
     buffer_by false (writes k v) f r = refl
-    buffer_by true (reads k) f (Word v) = t.keeps p w s v q
-    buffer_by true (reads k) f Nothing = refl
+    buffer_by true (reads k) f (Some v) = t.keeps p w s v q
+    buffer_by true (reads k) f None = refl
     buffer_by true (writes k v) f r = t.keeps p w s v q
 
     shows_going : Shows g (at s l Going) o
@@ -174,7 +171,7 @@ module _ (job : Job) (g : Lending) (lent : job.lent ≡ lengths_of g) (fits : g.
       stored = λ r. rw (z, verdict_is r) (buffer_by (leb (2 * length l + 2) g.room) (want s) refl r);
     }
 
-    steps_going : (r : Reply) → Inv (step_at g.room r (at s l Going)) (step_of o g.bytes (length g.buffer) g.room r).op
+    steps_going : (r : Option ℕ) → Inv (step_at g.room r (at s l Going)) (step_of o g.bytes (length g.buffer) g.room r).op
     steps_going r = rw (verdict_is r) (step_by (leb (2 * length l + 2) g.room) refl (want s) refl r)
 
   shows_of : {p : Point} {o : Op} → Inv p o → Shows g p o
@@ -194,13 +191,13 @@ module _ (job : Job) (g : Lending) (lent : job.lent ≡ lengths_of g) (fits : g.
         u ∙ ap (λ (x : Point). overlaid (bytes_in x.state) g.buffer) (sym (stays g.room r (at s l a) e).0);
   }
 
-  step_of_lem : {p : Point} {o : Op} (r : Reply) → Inv p o → Inv (step_at g.room r p) (step_of o g.bytes (length g.buffer) g.room r).op
+  step_of_lem : {p : Point} {o : Op} (r : Option ℕ) → Inv p o → Inv (step_at g.room r p) (step_of o g.bytes (length g.buffer) g.room r).op
   step_of_lem r (goes {l = l} q e z) = steps_going l q z r
   step_of_lem r (over {p} {w} {s} {l} {a} e f h z) =
       let u : (step_of (op p w (2 * length l) (reads_of l) a) g.bytes (length g.buffer) g.room r).op ≡ op p w (2 * length l) (reads_of l) a = rw e in
       subst (λ (x : Point). Inv x (step_of (op p w (2 * length l) (reads_of l) a) g.bytes (length g.buffer) g.room r).op) (sym (stays g.room r (at s l a) e).0) (subst (Inv (at s l a)) (sym u) (over e f h z))
 
-  shows_after : (rs : List Reply) {p : Point} {o : Op} → Inv p o → Shows g (steps_at g.room rs p) (op_after g rs o)
+  shows_after : (rs : List (Option ℕ)) {p : Point} {o : Op} → Inv p o → Shows g (steps_at g.room rs p) (op_after g rs o)
   shows_after [] h = shows_of h
   shows_after (r ∷ rs) h = shows_after rs (step_of_lem r h)
 

@@ -17,8 +17,7 @@ use Rattle.qspi_transfer.specs.LowLevel.{automatic, manual, chip_select_high}
 use Rattle.qspi_script.specs.declared.Status.{Status}
 use Rattle.qspi_script.specs.declared.Status.TheVariants.{Done, OutOfRange, Alignment, DataTooLarge, NotAligned, CrossesPageBoundary, AddressSpan, FieldTooWide, EraseErrorBitSet, ProgrammingErrorBitSet, RepeatedSector, ListTooLong}
 use Rattle.qspi_calls.specs.declared.start.Config.{Config}
-use Rattle.qspi_calls.specs.declared.start.Latency.{Latency}
-use Rattle.qspi_calls.specs.declared.start.Latency.TheVariants.{AsRead, Code}
+use Rattle.std.specs.Prelude.{Option, Some, None}
 use Rattle.qspi_calls.specs.Chunks.{Chunk, chunks}
 use Rattle.qspi_calls.specs.Sectors.{sector_status, first_refused, first_repeat}
 use Rattle.qspi_operation.specs.Machine.{write, modify, drain, Transfer, opening, Script, ends, perform, repeats, counts, none, exchange, onward}
@@ -157,9 +156,9 @@ new_with quad setLatency latency clear =
     onward (ltb 3 latency) (refused FieldTooWide)
     (exchange clearing (λ rs. onward (quad || (setLatency || clear)) (configuring quad setLatency latency clear) (ends Done [])))
 
-abbrev pub new_latency : Latency → Bool → Bool → Script
-new_latency AsRead quad clear = new_with quad false 0 clear
-new_latency (Code c) quad clear = new_with quad true c clear
+abbrev pub new_latency : Option ℕ → Bool → Bool → Script
+new_latency None quad clear = new_with quad false 0 clear
+new_latency (Some c) quad clear = new_with quad true c clear
 
 abbrev pub new_call : Config → Script
 new_call c = new_latency c.latency_config c.set_quad_bit_if_necessary c.clear_write_protection

@@ -1,6 +1,6 @@
 -- The list of `erase_sectors`: document 02, U1. "We want a list of up to 256 sector addresses for which the erase rules are tested on all entries before the first command goes out. A sector
 -- named twice is also a mistake."
-use Rattle.std.specs.Prelude.{ℕ, zero, suc, ◌+◌, ◌%◌, Bool, true, false, cond, ◌||◌, List, [], ◌∷◌, ◌++◌, map, ltb, eqb}
+use Rattle.std.specs.Prelude.{ℕ, zero, suc, ◌+◌, ◌%◌, Bool, false, cond, ◌||◌, List, [], ◌∷◌, ◌++◌, map, ltb, eqb}
 use Rattle.zedboard_bsp.specs.Limits.{last_end, sector_size, sector_number}
 use Rattle.qspi_script.specs.declared.Status.{Status}
 use Rattle.qspi_script.specs.declared.Status.TheVariants.{Going, OutOfRange, Alignment}

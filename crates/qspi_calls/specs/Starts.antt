@@ -1,7 +1,7 @@
 -- How the calls start, by counters: refused, ended, or with the first access of their first transfer due. Document 01, "What changes shape":
 -- "an operation is a state by value, ended at its start if no access is due", and the refusals of "What the input can bring on". specs/Calls
 -- says what each call does from there.
-use Rattle.std.specs.Prelude.{ℕ, ◌+◌, ◌%◌, Bool, true, false, List, [], ltb, eqb, length, get_or}
+use Rattle.std.specs.Prelude.{ℕ, ◌+◌, ◌%◌, Bool, true, false, List, [], ltb, eqb, length, get_or, Option, None, is_some, unwrap_or}
 use Rattle.zynq7000.specs.Qspi.{linear_word, config_word}
 use Rattle.zynq7000.specs.Slcr.{source_code, clock_control_word}
 use Rattle.zynq7000_hal.specs.Clocks.{baud_of}
@@ -38,8 +38,6 @@ use Rattle.qspi_operation.specs.declared.Op.{Op}
 use Rattle.qspi_operation.specs.Step.{is_going}
 use Rattle.qspi_calls.specs.Sectors.{sector_status, first_refused, first_repeat}
 use Rattle.qspi_calls.specs.declared.start.Config.{Config}
-use Rattle.qspi_calls.specs.declared.start.Latency.{Latency}
-use Rattle.qspi_calls.specs.declared.start.Latency.TheVariants.{AsRead, Code}
 
 -- ---- a call as it was asked for
 
@@ -54,7 +52,7 @@ abbrev pub not_reading : Reading
 not_reading = record { fast = false; dummy = false }
 
 abbrev pub nothing_wanted : Wanted
-nothing_wanted = record { quad = false; set_latency = false; latency = 0; clear = false; protection = 0 }
+nothing_wanted = record { quad = false; latency = None; clear = false; protection = 0 }
 
 abbrev pub no_registers : LowLevel
 no_registers = record { sequence = sequence.Disable; word = 0; clock = 0 }
@@ -117,24 +115,20 @@ may_update false true c = stage.ReadConfig
 may_update false false true = stage.ReadConfig
 may_update false false false = stage.End
 
-abbrev pub configuring_job : Bool → Bool → ℕ → Bool → ℕ → Job
-configuring_job quad setLatency latency clear log =
-    updating_job (may_update quad setLatency clear) purpose.Configure (record { quad = quad; set_latency = setLatency; latency = latency; clear = clear; protection = 0 }) log
+abbrev pub configuring_job : Bool → Option ℕ → Bool → ℕ → Job
+configuring_job quad latency clear log =
+    updating_job (may_update quad (is_some latency) clear) purpose.Configure (record { quad = quad; latency = latency; clear = clear; protection = 0 }) log
 
-abbrev pub new_with : Bool → Bool → ℕ → Bool → ℕ → Op
-new_with quad setLatency latency clear log =
-    pick (ltb 3 latency) (over (configuring_job quad setLatency latency clear log) status.FieldTooWide)
-    (going (configuring_job quad setLatency latency clear log) (place_at stage.Clear 0 0 0))
-
-abbrev pub new_latency : Latency → Bool → Bool → ℕ → Op
-new_latency AsRead quad clear log = new_with quad false 0 clear log
-new_latency (Code c) quad clear log = new_with quad true c clear log
+abbrev pub new_with : Bool → Option ℕ → Bool → ℕ → Op
+new_with quad latency clear log =
+    pick (ltb 3 (unwrap_or latency 0)) (over (configuring_job quad latency clear log) status.FieldTooWide)
+    (going (configuring_job quad latency clear log) (place_at stage.Clear 0 0 0))
 
 abbrev pub new_of : Config → ℕ → Op
-new_of c log = new_latency c.latency_config c.set_quad_bit_if_necessary c.clear_write_protection log
+new_of c log = new_with c.set_quad_bit_if_necessary c.latency_config c.clear_write_protection log
 
 abbrev pub protecting_job : ℕ → ℕ → Job
-protecting_job p log = updating_job stage.End purpose.Protect (record { quad = false; set_latency = false; latency = 0; clear = false; protection = p }) log
+protecting_job p log = updating_job stage.End purpose.Protect (record { quad = false; latency = None; clear = false; protection = p }) log
 
 abbrev pub set_write_protection : ℕ → ℕ → Op
 set_write_protection p log =

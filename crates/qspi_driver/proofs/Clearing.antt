@@ -1,5 +1,6 @@
 -- A list of sectors through the driver: whole, it is the run of its script; stepped, it follows the list as lent at the start, whatever its caller does with it then. Assumes nothing.
-use Prim.Native.Nat.{ℕ, ◌^◌, ◌/◌, ◌≤◌, ◌<◌, min}
+use Rattle.std.specs.Prelude.{Option}
+use Prim.Native.Nat.{ℕ, ◌^◌, ◌<◌, min}
 use mathlib.Core.Path.{◌≡◌, refl, sym, ap, subst, ◌∙◌}
 use mathlib.Core.Bool.{Bool, true, false}
 use mathlib.Core.List.{List, []}
@@ -11,20 +12,17 @@ use borrow.Author.Tests.{ltb-true, ltb-false}
 use Rattle.zedboard_bsp.specs.Limits.{longest_list}
 use Rattle.qspi_script.specs.declared.Lent.{Lent}
 use Rattle.qspi_script.specs.declared.Job.{Job}
-use Rattle.qspi_script.specs.declared.Status.{Status}
 use Rattle.qspi_operation.specs.declared.Op.{Op}
-use Rattle.qspi_operation.specs.declared.Reply.{Reply}
 use Rattle.qspi_operation.specs.declared.Stepped.{Stepped}
-use Rattle.qspi_operation.specs.Step.{is_going, erases_list, counted_of, step_of, log_of}
+use Rattle.qspi_operation.specs.Step.{is_going, step_of}
 use Rattle.qspi_operation.specs.Run as by-counters
 use Rattle.qspi_operation.specs.Run.{Run, run_of}
-use Rattle.qspi_operation.specs.Points.{Point, step_at, answer_at, logged_at}
-use Rattle.qspi_operation.specs.Follows.{Shows, Follows, answer_by, RunFollows, StepFollows, OnStep}
+use Rattle.qspi_operation.specs.Points.{Point, step_at, logged_at}
+use Rattle.qspi_operation.specs.Follows.{RunFollows}
 use Rattle.qspi_operation.proofs.Following.{on_run}
 use Rattle.qspi_operation.proofs.Verdicts.{no}
 use Rattle.qspi_calls.specs.Sectors.{numbers, numbers_in}
 use Rattle.qspi_calls.specs.Begins.{BeginsList}
-use Rattle.qspi_calls.specs.Starts.{erase_sectors_of}
 use Rattle.qspi_calls.proofs.Begins as begins
 use Rattle.qspi_calls.proofs.ListLoops.{length_in}
 use Rattle.qspi_calls.proofs.ListOfSectors.{length_numbers}
@@ -33,12 +31,12 @@ use Rattle.qspi_driver.specs.State.{list_job, list_op, lent_to, stepped_of, begu
 use Rattle.qspi_driver.specs.Driver.{Driver, Drive, driver_of, list_run, list_driven_if, list_driven_of}
 use Rattle.qspi_driver.specs.Promise.{Steps}
 use Rattle.qspi_driver.specs.Saved.{Untouched}
-use Rattle.qspi_driver.specs.Cleared.{lending_of, Erasing, list_outset, ListStarted, list_handed_back, Clears}
+use Rattle.qspi_driver.specs.Cleared.{lending_of, Erasing, ListStarted, Clears}
 use Rattle.qspi_driver.specs.declared.Driven.{Driven}
 use Rattle.qspi_driver.specs.declared.state.State.{State}
 use Rattle.qspi_driver.specs.declared.state.SectorList.{SectorList}
 use Rattle.qspi_driver.specs.declared.state.ListActed.{ListActed}
-use Rattle.qspi_driver.specs.declared.state.Answer.{Answer}
+use Rattle.qspi_driver.specs.State.{Answer}
 use Rattle.qspi_driver.proofs.SectorLists.{list_erases, lent_copy, step_job}
 
 -- ---- the list at hand
@@ -48,7 +46,7 @@ lent_long : (l : List ℕ) (room : ℕ) {o : Op} → BeginsList l room o → o.j
 lent_long l room b = ap (λ (y : Lent). y.«data») (b.follows.always []).lent ∙ length_numbers l
 
 begins_list : (l : List ℕ) (room : ℕ) → room < 2 ^ 64 → BeginsList l room (list_op l room)
-begins_list l room fits = (begins.erase_sectors_lem l room fits (list_op l room) refl).1
+begins_list l room fits = begins.erase_sectors_lem l room fits (list_op l room) refl
 
 -- THEOREM. A list that the driver begins is at hand as it was lent at the start: the operation begins its script, and its numbers are kept.
 pub list_started : (s : State) (kept : SectorList) (l : List ℕ) (room : ℕ) → room < 2 ^ 64 → {x : ListActed} → x ≡ begun_list_of s kept l room → (x ≡ begun_list_of s kept l room) × ListStarted s l room x.answer x.state x.list
@@ -67,7 +65,7 @@ own_list : {l : List ℕ} {room : ℕ} {p : Point} {d : Driver} → Erasing l ro
 own_list {d = d} e = lent_copy d.state.op d.list.numbers [] e.erases (omega arith) ∙ ap (λ (n : ℕ). take n d.list.numbers) e.long ∙ e.kept
 
 -- THEOREM. A step of it, out of what the contract of `step` promises: lent no data and a log of the same length it goes on with the list as lent at the start, whatever its caller has done with it.
-pub erasing_steps : {l : List ℕ} {room : ℕ} {p : Point} {d d₁ : Driver} (log log₁ buffer₁ : List ℕ) (r : Reply) {a : Answer} → Erasing l room p d → length log ≡ room
+pub erasing_steps : {l : List ℕ} {room : ℕ} {p : Point} {d d₁ : Driver} (log log₁ buffer₁ : List ℕ) (r : Option ℕ) {a : Answer} → Erasing l room p d → length log ≡ room
     → d₁ ≡ driver_of (stepped_of d.state (lent_to d.state.op d.list.numbers []) 0 (length log) r).state d.list
     → Steps d.state.op (lent_to d.state.op d.list.numbers []) [] log r a d₁.state.op buffer₁ log₁
     → Erasing l room (step_at room r p) d₁ × (log₁ ≡ logged_at room r p log)

@@ -1,5 +1,6 @@
 -- What the loop of `finish` keeps: from each of its states the call leads where it leads from the start, and each step leaves fewer; and what is finished so, of a call that was begun, is `driven_of`, and of a
 -- list `list_driven_of`. It says nothing of the machine. Assumes nothing.
+use Rattle.std.specs.Prelude.{Option, Ok, Err}
 use Prim.Native.Nat.{ℕ, ◌<◌}
 use mathlib.Core.Path.{◌≡◌, refl, sym, ap, ◌∙◌}
 use mathlib.Core.Bool.{Bool, true, false}
@@ -7,10 +8,9 @@ use mathlib.Core.List.{List, []}
 use lib.ListN.{length}
 use Rattle.qspi_script.specs.declared.Status.{Status}
 use Rattle.qspi_operation.specs.declared.Op.{Op}
-use Rattle.qspi_operation.specs.declared.Reply.{Reply}
 use Rattle.qspi_operation.specs.declared.Stepped.{Stepped as Operation}
 use Rattle.qspi_operation.specs.Step.{is_going, step_of, log_of, buffer_of, reply_of}
-use Rattle.qspi_operation.specs.Run.{Run, run_at, run_of, fuel}
+use Rattle.qspi_operation.specs.Run.{run_at, run_of, fuel}
 use Rattle.qspi_operation.specs.Pass.{left}
 use Rattle.qspi_operation.proofs.Verdicts.{no}
 use Rattle.qspi_operation.proofs.Runs.{halted, Turn, turn}
@@ -19,18 +19,17 @@ use Rattle.zedboard_bsp.specs.Limits.{longest_list}
 use Rattle.qspi_calls.specs.Sectors.{numbers_in}
 use Rattle.qspi_driver.specs.State.{list_op, keeps, lent_to, begun_if, begun_of, begun_list_if, begun_list_of, stepped_of, is_under_way}
 use Rattle.qspi_driver.proofs.SectorLists.{lent_other, lent_list, lent_kept}
-use Rattle.qspi_driver.specs.Driver.{Driver, driver_of, Drive, refused, reached, finished_of, driven_if, driven_of, list_driven_if, list_driven_of}
+use Rattle.qspi_driver.specs.Driver.{Driver, driver_of, reached, finished_of, driven_if, driven_of, list_driven_if, list_driven_of}
 use Rattle.qspi_driver.specs.declared.state.Acted.{Acted}
 use Rattle.qspi_driver.specs.declared.state.ListActed.{ListActed}
-use Rattle.qspi_driver.specs.declared.state.Answer.{Answer}
-use Rattle.qspi_driver.specs.declared.state.Answer.TheVariants.{Given, Busy, ListMissing}
+use Rattle.qspi_driver.specs.State.{Answer}
 
 -- what a step of the driver is lent
 abbrev lent : Driver → List ℕ → List ℕ
 lent d bytes = lent_to d.state.op d.list.numbers bytes
 
 -- what `step` ensures of the driver, the answer and the memory
-pub record Stepped (bytes : List ℕ) (d : Driver) (buffer log : List ℕ) (r : Reply) (d' : Driver) (a : Answer) (buffer' log' : List ℕ) : Type 0 where
+pub record Stepped (bytes : List ℕ) (d : Driver) (buffer log : List ℕ) (r : Option ℕ) (d' : Driver) (a : Answer) (buffer' log' : List ℕ) : Type 0 where
   pub state : d' ≡ driver_of (stepped_of d.state (lent_to d.state.op d.list.numbers bytes) (length buffer) (length log) r).state d.list
   pub answer : a ≡ (stepped_of d.state (lent_to d.state.op d.list.numbers bytes) (length buffer) (length log) r).answer
   pub stored : buffer' ≡ buffer_of d.state.op (lent_to d.state.op d.list.numbers bytes) buffer (length log) r
@@ -67,36 +66,33 @@ module _ (bytes rs : List ℕ) where
       turned x k = turn (is_going x) x d.state.op (lent d bytes) rs buffer log stepped _ _ k refl refl refl
 
       -- the run from there, on what the stepped operation is lent: it is what it was
-      on_from : (x : Status) → is_going x ≡ true → finished_of (driver_of (stepped_of d.state (lent d bytes) (length buffer) (length log) (reply_of rs d.state.op.replies)).state d.list) (Given stepped.answer) bytes rs buffer₁ log₁ ≡ finished_of d (Given x) bytes rs buffer log
+      on_from : (x : Status) → is_going x ≡ true → finished_of (driver_of (stepped_of d.state (lent d bytes) (length buffer) (length log) (reply_of rs d.state.op.replies)).state d.list) (Ok stepped.answer) bytes rs buffer₁ log₁ ≡ finished_of d (Ok x) bytes rs buffer log
       on_from x k =
           ap (λ (l : List ℕ). reached d.list (run_at (fuel stepped.op log₁) (is_going stepped.answer) stepped.answer stepped.op l rs buffer₁ log₁)) (lent_kept d.state.op (lent d bytes) (length buffer) (length log) (reply_of rs d.state.op.replies) d.list.numbers bytes)
           ∙ ap (reached d.list) (sym (turned x k).same)
 
-      pub goes_on : Good d a buffer log → {r : Reply} {d' : Driver} {a' : Answer} {buffer' log' : List ℕ} → is_under_way a ≡ true → r ≡ reply_of rs d.state.op.replies → Stepped bytes d buffer log r d' a' buffer' log'
+      pub goes_on : Good d a buffer log → {r : Option ℕ} {d' : Driver} {a' : Answer} {buffer' log' : List ℕ} → is_under_way a ≡ true → r ≡ reply_of rs d.state.op.replies → Stepped bytes d buffer log r d' a' buffer' log'
           → Good d' a' buffer' log'
       goes_on g {r} {d'} {a'} {buffer'} {log'} h e s = record { same = leads a h ∙ g.same; wide = s.wide ∙ g.wide; long = s.long ∙ g.long }
         where
           leads : (c : Answer) → is_under_way c ≡ true → finished_of d' a' bytes rs buffer' log' ≡ finished_of d c bytes rs buffer log
-          leads (Given x) k = rw (s.state, s.answer, s.stored, s.logged, e) (on_from x k)
-          leads Busy k = no k
-          leads ListMissing k = no k
+          leads (Ok x) k = rw (s.state, s.answer, s.stored, s.logged, e) (on_from x k)
+          leads (Err z) k = no k
 
-      pub nearer : Good d a buffer log → {r : Reply} {d' : Driver} {a' : Answer} {buffer' log' : List ℕ} → is_under_way a ≡ true → r ≡ reply_of rs d.state.op.replies → Stepped bytes d buffer log r d' a' buffer' log'
+      pub nearer : Good d a buffer log → {r : Option ℕ} {d' : Driver} {a' : Answer} {buffer' log' : List ℕ} → is_under_way a ≡ true → r ≡ reply_of rs d.state.op.replies → Stepped bytes d buffer log r d' a' buffer' log'
           → steps d' a' log' < steps d a log
       nearer g {r} {d'} {a'} {buffer'} {log'} h e s = fewer a h
         where
           fewer : (c : Answer) → is_under_way c ≡ true → steps d' a' log' < steps d c log
-          fewer (Given x) k = rw (s.state, s.answer, s.logged, e) (turned x k).fewer
-          fewer Busy k = no k
-          fewer ListMissing k = no k
+          fewer (Ok x) k = rw (s.state, s.answer, s.logged, e) (turned x k).fewer
+          fewer (Err z) k = no k
 
       pub ends : Good d a buffer log → is_under_way a ≡ false → record { driver = d; answer = a; buffer = buffer; log = log } ≡ finished_of d₀ a₀ bytes rs buffer₀ log₀
       ends g h = sym (over a h) ∙ g.same
         where
           over : (c : Answer) → is_under_way c ≡ false → finished_of d c bytes rs buffer log ≡ record { driver = d; answer = c; buffer = buffer; log = log }
-          over (Given x) k = ap (reached d.list) (halted (fuel d.state.op log) (is_going x) x d.state.op (lent d bytes) rs buffer log k)
-          over Busy k = refl
-          over ListMissing k = refl
+          over (Ok x) k = ap (reached d.list) (halted (fuel d.state.op log) (is_going x) x d.state.op (lent d bytes) rs buffer log k)
+          over (Err z) k = refl
 
 -- ---- a whole call
 

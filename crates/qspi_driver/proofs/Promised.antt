@@ -1,4 +1,5 @@
 -- What the driver promises over lists, out of what it says by counters. Assumes nothing.
+use Rattle.std.specs.Prelude.{Option}
 use Prim.Native.Nat.{ℕ}
 use mathlib.Core.Path.{◌≡◌, refl, ap, subst, ◌∙◌, sym}
 use mathlib.Core.Bool.{Bool, false}
@@ -12,8 +13,7 @@ use Rattle.qspi_script.specs.declared.Gives.{Gives}
 use Rattle.qspi_script.specs.declared.Status.{Status}
 use Rattle.qspi_script.specs.declared.Status.TheVariants.{Going, Done, OutOfRange, Alignment, DataTooLarge, NotAligned, CrossesPageBoundary, AddressSpan, FieldTooWide, EraseErrorBitSet, ProgrammingErrorBitSet, RepliesEnded, LogFull, LentLengthChanged, RepeatedSector, ListTooLong}
 use Rattle.qspi_operation.specs.declared.Op.{Op}
-use Rattle.qspi_operation.specs.declared.Reply.{Reply}
-use Rattle.qspi_operation.specs.declared.Asked.{Asked}
+use Rattle.qspi_operation.specs.Step.{Asked}
 use Rattle.qspi_operation.specs.declared.Stepped.{Stepped}
 use Rattle.qspi_operation.specs.Run.{run_of}
 use Rattle.qspi_operation.specs.Step.{is_going, step_of, log_of, buffer_of, due_of}
@@ -29,7 +29,7 @@ use Rattle.qspi_driver.specs.Driver.{Driver, Drive, refused, driven_if, driven_o
 use Rattle.qspi_driver.specs.Promise.{Started, Steps, AnswerFollows, Drives}
 use Rattle.qspi_driver.specs.declared.Driven.{Driven}
 use Rattle.qspi_driver.specs.declared.state.State.{State}
-use Rattle.qspi_driver.specs.declared.state.Answer.{Answer}
+use Rattle.qspi_driver.specs.State.{Answer}
 use Rattle.qspi_driver.specs.declared.state.Acted.{Acted}
 use Rattle.qspi_driver.specs.declared.state.Progress.{Progress}
 
@@ -55,7 +55,7 @@ started s op {x} e = (
 
 -- ---- a step
 
-pub steps : (s : State) (bytes buffer log : List ℕ) (r : Reply) {x : Acted} {buffer₁ log₁ : List ℕ} → x ≡ stepped_of s bytes (length buffer) (length log) r → buffer₁ ≡ buffer_of s.op bytes buffer (length log) r → log₁ ≡ log_of s.op bytes (length buffer) log r
+pub steps : (s : State) (bytes buffer log : List ℕ) (r : Option ℕ) {x : Acted} {buffer₁ log₁ : List ℕ} → x ≡ stepped_of s bytes (length buffer) (length log) r → buffer₁ ≡ buffer_of s.op bytes buffer (length log) r → log₁ ≡ log_of s.op bytes (length buffer) log r
     → Steps s.op bytes buffer log r x.answer x.state.op buffer₁ log₁
 steps s bytes buffer log r {x} {buffer₁} {log₁} e f g =
     let y : Stepped = step_of s.op bytes (length buffer) (length log) r in
@@ -66,7 +66,7 @@ steps s bytes buffer log r {x} {buffer₁} {log₁} e f g =
     record { status = y.answer; given = ap (λ (w : Acted). w.answer) e; follows = k; saves = step_saves s.op bytes buffer log r k }
 
 -- the same of the data that the operation is lent
-pub steps_with : {s : State} {lent bytes buffer log : List ℕ} {r : Reply} {x : Acted} {buffer₁ log₁ : List ℕ} → lent ≡ bytes → x ≡ stepped_of s lent (length buffer) (length log) r → buffer₁ ≡ buffer_of s.op lent buffer (length log) r → log₁ ≡ log_of s.op lent (length buffer) log r
+pub steps_with : {s : State} {lent bytes buffer log : List ℕ} {r : Option ℕ} {x : Acted} {buffer₁ log₁ : List ℕ} → lent ≡ bytes → x ≡ stepped_of s lent (length buffer) (length log) r → buffer₁ ≡ buffer_of s.op lent buffer (length log) r → log₁ ≡ log_of s.op lent (length buffer) log r
     → (x ≡ stepped_of s bytes (length buffer) (length log) r) × (buffer₁ ≡ buffer_of s.op bytes buffer (length log) r) × (log₁ ≡ log_of s.op bytes (length buffer) log r) × Steps s.op bytes buffer log r x.answer x.state.op buffer₁ log₁
 steps_with {s} {lent} {bytes} {buffer} {log} {r} same e f g =
     let e₁ = e ∙ ap (λ (l : List ℕ). stepped_of s l (length buffer) (length log) r) same in

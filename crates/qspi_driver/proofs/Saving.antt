@@ -1,4 +1,5 @@
 -- A save through the driver is the run of `write_pages`, so it promises what that run promises. Assumes nothing.
+use Rattle.std.specs.Prelude.{Option}
 use Prim.Native.Nat.{ℕ, ◌<◌}
 use mathlib.Core.Path.{◌≡◌, refl, ap, subst, ◌∙◌}
 use mathlib.Core.Bool.{Bool, true, false}
@@ -16,10 +17,9 @@ use Rattle.qspi_calls.specs.Starts.{write_pages_of}
 use Rattle.power_cut.proofs.Promised.{promised, saved}
 use Rattle.qspi_operation.specs.Step.{erases_list}
 use Rattle.power_cut.specs.Saving.{Saving, KeepsSaving}
-use Rattle.qspi_operation.specs.declared.Reply.{Reply}
 use Rattle.qspi_driver.specs.State.{lent_to}
 use Rattle.qspi_driver.specs.Promise.{Started, Steps}
-use Rattle.qspi_driver.specs.declared.state.Answer.{Answer}
+use Rattle.qspi_driver.specs.State.{Answer}
 use Rattle.qspi_driver.proofs.SectorLists.{save_erases_none, lent_other}
 use Rattle.qspi_driver.specs.declared.Driven.{Driven}
 use Rattle.qspi_driver.specs.Driver.{Driver, Drive, driven_if, driven_of}
@@ -56,5 +56,5 @@ pub save_starts : (a : ℕ) (bs log : List ℕ) (o : Op) {op o₁ : Op} {answer 
 save_starts a bs log o e b octets g s = s.saves g (ap erases_list e ∙ save_erases_none a (length bs) (length log)) a bs log octets b
 
 -- THEOREM. A step of an operation that erases no list keeps a save, lent the caller's data.
-pub save_steps : (o : Op) (list bytes buffer log : List ℕ) (r : Reply) {answer : Answer} {o₁ : Op} {buffer₁ log₁ : List ℕ} → erases_list o ≡ false → Steps o (lent_to o list bytes) buffer log r answer o₁ buffer₁ log₁ → KeepsSaving o bytes buffer log o₁ log₁
+pub save_steps : (o : Op) (list bytes buffer log : List ℕ) (r : Option ℕ) {answer : Answer} {o₁ : Op} {buffer₁ log₁ : List ℕ} → erases_list o ≡ false → Steps o (lent_to o list bytes) buffer log r answer o₁ buffer₁ log₁ → KeepsSaving o bytes buffer log o₁ log₁
 save_steps o list bytes buffer log r {o₁ = o₁} {log₁ = log₁} k s = subst (λ (z : List ℕ). KeepsSaving o z buffer log o₁ log₁) (lent_other o list bytes k) s.saves

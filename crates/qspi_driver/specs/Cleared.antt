@@ -1,4 +1,5 @@
 -- A list of sectors through the driver: document 02, U1. "Erasing follows the list as lent at the start".
+use Rattle.std.specs.Prelude.{Ok, Err}
 use Rattle.std.specs.Prelude.{ℕ, ◌/◌, ◌≤◌, ◌≡◌, true, false, List, [], length, take}
 use Rattle.zedboard_bsp.specs.Limits.{longest_list}
 use Rattle.qspi_script.specs.declared.Status.{Status}
@@ -16,8 +17,8 @@ use Rattle.power_cut.specs.SectorPromise.{Cleared, sectors_answer}
 use Rattle.power_cut.specs.declared.SectorsRan.{SectorsRan}
 use Rattle.qspi_driver.specs.declared.state.State.{State}
 use Rattle.qspi_driver.specs.declared.state.SectorList.{SectorList}
-use Rattle.qspi_driver.specs.declared.state.Answer.{Answer}
-use Rattle.qspi_driver.specs.declared.state.Answer.TheVariants.{Given, Busy}
+use Rattle.qspi_driver.specs.State.{Answer}
+use Rattle.qspi_driver.specs.declared.state.StartRefused.TheVariants.{Busy}
 use Rattle.qspi_driver.specs.declared.Driven.{Driven}
 use Rattle.qspi_driver.specs.Driver.{Driver, driver_of}
 
@@ -41,9 +42,9 @@ list_outset l = outset (begin (erase_sectors l) [] 0)
 -- a start with a list: s was at hand, s₁ is at hand then, with the list that is kept
 pub record ListStarted (s : State) (l : List ℕ) (room : ℕ) (answer : Answer) (s₁ : State) (kept : SectorList) : Type 0 where
   -- while a call has not ended nothing is changed
-  pub busy : is_going s.op.status ≡ true → (answer ≡ Busy) × (s₁ ≡ s)
+  pub busy : is_going s.op.status ≡ true → (answer ≡ Err Busy) × (s₁ ≡ s)
   -- any other list begins its script, refused ones too, with its own answer
-  pub begins : is_going s.op.status ≡ false → (answer ≡ Given s₁.op.status) × BeginsList l room s₁.op
+  pub begins : is_going s.op.status ≡ false → (answer ≡ Ok s₁.op.status) × BeginsList l room s₁.op
   -- and one that is not too long is at hand, as lent at the start
   pub erasing : is_going s.op.status ≡ false → length l ≤ longest_list → Erasing l room (list_outset l) (driver_of s₁ kept)
 
@@ -60,7 +61,7 @@ list_handed_back a r = record {
 -- number, place, used counts, sectors finished and log are those of the run over lists; of a list that is not refused they are those of the single erases; and the log shows the sectors counted
 pub record Clears (l replies log : List ℕ) (r : Driven) (log₁ : List ℕ) : Type 0 where
   pub status : Status
-  pub given : r.answer ≡ Given status
+  pub given : r.answer ≡ Ok status
   pub answer : sectors_answer (list_handed_back status r) ≡ answered_of (called (erase_sectors l) (length log / 2) replies)
   pub place : (list_handed_back status r).place ≡ one_of (values_in (answered_of (called (erase_sectors l) (length log / 2) replies)).says)
   pub logged : log₁ ≡ logged_of (called (erase_sectors l) (length log / 2) replies) log

@@ -11,9 +11,11 @@ ghost use Rattle.qspi_driver.specs.Driver.{idle, driver_of, finished_of, driven_
 ghost use Rattle.qspi_driver.specs.Saved.{Saves, Untouched};
 ghost use Rattle.qspi_driver.specs.Cleared.{ListStarted, Clears};
 
-use crate::state::{Answer, Progress, SectorList, State};
+use crate::state::{Progress, SectorList, StartRefused, State};
 use qspi_calls::start;
-use qspi_operation::{Asked, Op, Reply};
+use qspi_operation::{LentLengthChanged, Op};
+use qspi_script::Status;
+use qspi_transfer::Due;
 
 pub mod state;
 
@@ -30,47 +32,44 @@ impl QspiSpansionS25Fl256SIoMode {
         ensures driver { result ≡ idle }
     {
         let op = start::read_page_read(0, 0, 0);
-        let state = State { op };
         let numbers = [0u8; 256];
-        let list = SectorList { numbers };
-        QspiSpansionS25Fl256SIoMode { state, list }
+        QspiSpansionS25Fl256SIoMode {
+            state: State { op },
+            list: SectorList { numbers },
+        }
     }
 
     // Begins a call: `op` is what a function of `qspi_calls::start` gave. While the operation at hand has
     // not ended the answer is `Busy`, and of a list of sectors it is `ListMissing`: nothing is changed.
-    pub fn start(&mut self, op: Op) -> Answer
+    pub fn start(&mut self, op: Op) -> Result<Status, StartRefused>
         ensures state { self.new ≡ driver_of (begun_of self.old.state op).state self.old.list }
         ensures answer { result ≡ (begun_of self.old.state op).answer }
         ensures begins { Started self.old.state.op op result self.new.state.op }
     {
-        let state = self.state;
-        let s = state::begin(state, op);
+        let s = state::begin(self.state, op);
         self.state = s.state;
         s.answer
     }
 
     // Begins the erase of a list of sectors, whose numbers are kept beside the operation: no step is lent
     // the list again. While the operation at hand has not ended the answer is `Busy`, and nothing is changed.
-    pub fn erase_sectors(&mut self, list: &[u32], log: usize) -> Answer
+    pub fn erase_sectors(&mut self, list: &[u32], log: usize) -> Result<Status, StartRefused>
         ensures state { self.new ≡ driver_of (begun_list_of self.old.state self.old.list list.now log).state (begun_list_of self.old.state self.old.list list.now log).list }
         ensures answer { result ≡ (begun_list_of self.old.state self.old.list list.now log).answer }
         ensures begins { ListStarted self.old.state list.now log result self.new.state self.new.list }
     {
-        let state = self.state;
-        let kept = self.list;
-        let s = state::begin_list(state, kept, list, log);
+        let s = state::begin_list(self.state, self.list, list, log);
         self.state = s.state;
         self.list = s.list;
         s.answer
     }
 
     // The access that is due, without effect.
-    pub fn due(&self, data: &[u8]) -> Asked
+    pub fn due(&self, data: &[u8]) -> Result<Option<Due>, LentLengthChanged>
         ensures due { result ≡ due_of self.now.state.op (lent_to self.now.state.op self.now.list.numbers «data».now) }
         ensures follows { DueFollows self.now.state.op (lent_to self.now.state.op self.now.list.numbers «data».now) result }
     {
-        let state = self.state;
-        state::due(state, &self.list.numbers, data)
+        state::due(self.state, &self.list.numbers, data)
     }
 
     // The answer so far.
@@ -78,22 +77,26 @@ impl QspiSpansionS25Fl256SIoMode {
         ensures progress { result ≡ progress_of self.now.state.op }
         ensures follows { AnswerFollows self.now.state.op result }
     {
-        let state = self.state;
-        state::answer_so_far(state)
+        state::answer_so_far(self.state)
     }
 
     // A step of the operation at hand: it makes and logs one access, or answers 23, 24 or 25, or repeats the
     // answer of one that has ended. A call without data or without a read buffer is lent an empty one; a list
     // of sectors is lent the driver's own copy, and with data beside it the answer is 25.
-    pub fn step(&mut self, data: &[u8], buffer: &mut [u8], log: &mut [u32], reply: Reply) -> Answer
+    pub fn step(
+        &mut self,
+        data: &[u8],
+        buffer: &mut [u8],
+        log: &mut [u32],
+        reply: Option<u32>,
+    ) -> Result<Status, StartRefused>
         ensures state { self.new ≡ driver_of (stepped_of self.old.state (lent_to self.old.state.op self.old.list.numbers «data».now) (length buffer.old) (length log.old) reply).state self.old.list }
         ensures answer { result ≡ (stepped_of self.old.state (lent_to self.old.state.op self.old.list.numbers «data».now) (length buffer.old) (length log.old) reply).answer }
         ensures stored { buffer.new ≡ buffer_of self.old.state.op (lent_to self.old.state.op self.old.list.numbers «data».now) buffer.old (length log.old) reply }
         ensures logged { log.new ≡ log_of self.old.state.op (lent_to self.old.state.op self.old.list.numbers «data».now) (length buffer.old) log.old reply }
         ensures follows { Steps self.old.state.op (lent_to self.old.state.op self.old.list.numbers «data».now) buffer.old log.old reply result self.new.state.op buffer.new log.new }
     {
-        let state = self.state;
-        let s = state::step(state, &self.list.numbers, data, buffer, log, reply);
+        let s = state::step(self.state, &self.list.numbers, data, buffer, log, reply);
         self.state = s.state;
         s.answer
     }
@@ -103,14 +106,14 @@ impl QspiSpansionS25Fl256SIoMode {
 #[derive(Clone, Copy)]
 pub struct Driven {
     pub driver: QspiSpansionS25Fl256SIoMode,
-    pub answer: Answer,
+    pub answer: Result<Status, StartRefused>,
 }
 
 // The rest of a call that was begun: it is stepped to its end, the replies in order. State and list are
 // taken apart: in one struct, of which a step is lent the list, the operation would not stay in registers.
 fn finish(
     driver: QspiSpansionS25Fl256SIoMode,
-    begun: Answer,
+    begun: Result<Status, StartRefused>,
     data: &[u8],
     buffer: &mut [u8],
     log: &mut [u32],
@@ -130,11 +133,13 @@ fn finish(
         at_hand = s.state;
         answer = s.answer;
     }
-    let driver = QspiSpansionS25Fl256SIoMode {
-        state: at_hand,
-        list,
-    };
-    Driven { driver, answer }
+    Driven {
+        driver: QspiSpansionS25Fl256SIoMode {
+            state: at_hand,
+            list,
+        },
+        answer,
+    }
 }
 
 // A whole call: `op` is begun and stepped to its end, the replies in order, for a caller that has the driver
@@ -153,13 +158,12 @@ pub fn drive(
     ensures logged { log.new ≡ (driven_of driver op «data».now replies.now buffer.old log.old).log }
     ensures drives { Drives driver op «data».now buffer.old log.old replies.now result buffer.new log.new }
 {
-    let state = driver.state;
-    let list = driver.list;
-    let acted = state::begin(state, op);
-    let next = acted.state;
-    let answer = acted.answer;
-    let begun = QspiSpansionS25Fl256SIoMode { state: next, list };
-    finish(begun, answer, data, buffer, log, replies)
+    let acted = state::begin(driver.state, op);
+    let begun = QspiSpansionS25Fl256SIoMode {
+        state: acted.state,
+        ..driver
+    };
+    finish(begun, acted.answer, data, buffer, log, replies)
 }
 
 // A save through the driver. Its contract states what a power cut can leave in the flash.
@@ -174,8 +178,7 @@ pub fn write_pages(
     ensures busy { is_going driver.state.op.status ≡ true → Untouched driver log.old result log.new }
 {
     let op = start::write_pages(addr, data.len(), log.len());
-    let mut buffer = [0u8; 0];
-    drive(driver, op, data, &mut buffer, log, replies)
+    drive(driver, op, data, &mut [], log, replies)
 }
 
 // A list of sectors, erased from the first to the last through the driver, which keeps the list. Its
@@ -192,17 +195,10 @@ pub fn erase_sectors(
     ensures clears { is_going driver.state.op.status ≡ false → Clears list.now replies.now log.old result log.new }
     ensures busy { is_going driver.state.op.status ≡ true → Untouched driver log.old result log.new }
 {
-    let state = driver.state;
-    let kept = driver.list;
-    let acted = state::begin_list(state, kept, list, log.len());
-    let next = acted.state;
-    let copied = acted.list;
-    let answer = acted.answer;
+    let acted = state::begin_list(driver.state, driver.list, list, log.len());
     let begun = QspiSpansionS25Fl256SIoMode {
-        state: next,
-        list: copied,
+        state: acted.state,
+        list: acted.list,
     };
-    let data = [0u8; 0];
-    let mut buffer = [0u8; 0];
-    finish(begun, answer, &data, &mut buffer, log, replies)
+    finish(begun, acted.answer, &[], &mut [], log, replies)
 }

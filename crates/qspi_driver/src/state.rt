@@ -11,8 +11,9 @@ ghost use Rattle.qspi_driver.specs.Promise.{Started, Steps, AnswerFollows};
 ghost use Rattle.qspi_driver.specs.Cleared.{ListStarted};
 
 use qspi_calls::{run, sectors, start};
-use qspi_operation::{Asked, Op, Reply, Stepped};
-use qspi_script::{Gives, Number, Status};
+use qspi_operation::{LentLengthChanged, Op, Stepped};
+use qspi_script::{Gives, Status};
+use qspi_transfer::Due;
 use zedboard_bsp::qspi_spansion::device_id::{BaseDeviceId, ExtendedDeviceId};
 use zedboard_bsp::qspi_spansion::words;
 
@@ -22,41 +23,38 @@ pub struct State {
     pub op: Op,
 }
 
-// The list of sectors as it was lent at the start of `erase_sectors`, a byte a sector: its number.
+// The list of sectors as it was lent at the start of `erase_sectors`, a byte a sector: its number. There is no
+// heap on the board, so there is room for the longest; how many they are says the operation.
 #[derive(Clone, Copy)]
 pub struct SectorList {
     pub numbers: [u8; 256],
 }
 
-// What a start or a step answers.
-#[derive(Clone, Copy)]
-pub enum Answer {
-    // The status of the operation at hand.
-    Given(Status),
-    // A start while the operation at hand has not ended: nothing is changed.
+// Why a start begins nothing: nothing is changed then.
+#[derive(Clone, Copy, PartialEq, Eq)]
+pub enum StartRefused {
+    // The operation at hand has not ended.
     Busy,
-    // A start of a list of sectors without its list: nothing is changed; `erase_sectors` begins one.
+    // A list of sectors is begun without its list; `erase_sectors` begins one.
     ListMissing,
 }
 
-impl Answer {
-    // Document 01's number, where the answer has one.
-    pub fn number(self) -> Number
-        ensures number { result ≡ number_in self }
-    {
-        match self {
-            Answer::Given(status) => status.number(),
-            Answer::Busy => Number::Without,
-            Answer::ListMissing => Number::Without,
-        }
+// Document 01's number, where the answer has one.
+pub fn number(answer: Result<Status, StartRefused>) -> Option<u32>
+    ensures number { result ≡ number_in answer }
+{
+    match answer {
+        Ok(status) => status.number(),
+        Err(_) => None,
     }
 }
 
-// The state after a start or a step, and its answer.
+// The state after a start or a step, and its answer: the status of the operation at hand. Both answer in one
+// type, so that a caller begins a call and goes on with it by one answer; a step is not refused.
 #[derive(Clone, Copy)]
 pub struct Acted {
     pub state: State,
-    pub answer: Answer,
+    pub answer: Result<Status, StartRefused>,
 }
 
 // The same after a start of a list, with the list that is kept.
@@ -64,12 +62,13 @@ pub struct Acted {
 pub struct ListActed {
     pub state: State,
     pub list: SectorList,
-    pub answer: Answer,
+    pub answer: Result<Status, StartRefused>,
 }
 
 // The answer so far: status, used counts (log words, replies), what it counts (bytes programmed by
 // `write_pages`, sectors finished of a list), and of an answer with values what it gives: the SLCR clock
-// word, the place of an entry, and the last three replies, of which a register's byte or an id is made.
+// word, the place of an entry, and the last three replies, of which a register's byte or an id is made. These
+// are no enum of values: `register`, the ids and `lqspi_clk_ctrl` promise what they give of any answer.
 #[derive(Clone, Copy)]
 pub struct Progress {
     pub status: Status,
@@ -121,14 +120,9 @@ impl Progress {
         ensures place { result ≡ place_given self.gives }
         ensures value { (n : ℕ) → self.gives ≡ gives.Place n → values_given self ≡ result ∷ [] }
     {
-        let gives = self.gives;
-        match gives {
-            Gives::Nothing => 0,
-            Gives::Register => 0,
-            Gives::Id => 0,
-            Gives::LongId => 0,
-            Gives::Clock => 0,
+        match self.gives {
             Gives::Place(at) => at,
+            _ => 0,
         }
     }
 }
@@ -137,25 +131,21 @@ impl Progress {
 pub fn begin(state: State, op: Op) -> Acted
     ensures acted { (result ≡ begun_of state op) × Started state.op op result.answer result.state.op }
 {
-    let at_hand = state.op;
-    let status = at_hand.status;
-    if qspi_operation::is_going(status) {
+    if qspi_operation::is_going(state.op.status) {
         return Acted {
             state,
-            answer: Answer::Busy,
+            answer: Err(StartRefused::Busy),
         };
     }
     if qspi_operation::erases_list(op) {
         return Acted {
             state,
-            answer: Answer::ListMissing,
+            answer: Err(StartRefused::ListMissing),
         };
     }
-    let status = op.status;
-    let next = State { op };
     Acted {
-        state: next,
-        answer: Answer::Given(status),
+        state: State { op },
+        answer: Ok(op.status),
     }
 }
 
@@ -163,10 +153,8 @@ pub fn begin(state: State, op: Op) -> Acted
 pub fn begin_list(state: State, kept: SectorList, list: &[u32], log: usize) -> ListActed
     ensures acted { (result ≡ begun_list_of state kept list.now log) × ListStarted state list.now log result.answer result.state result.list }
 {
-    let at_hand = state.op;
-    let status = at_hand.status;
-    if qspi_operation::is_going(status) {
-        let answer = Answer::Busy;
+    if qspi_operation::is_going(state.op.status) {
+        let answer = Err(StartRefused::Busy);
         return ListActed {
             state,
             list: kept,
@@ -174,14 +162,11 @@ pub fn begin_list(state: State, kept: SectorList, list: &[u32], log: usize) -> L
         };
     }
     let begun = start::erase_sectors(list, log);
-    let status = begun.status;
-    let next = State { op: begun };
     let numbers = sectors::numbered(list);
-    let copied = SectorList { numbers };
     ListActed {
-        state: next,
-        list: copied,
-        answer: Answer::Given(status),
+        state: State { op: begun },
+        list: SectorList { numbers },
+        answer: Ok(begun.status),
     }
 }
 
@@ -190,25 +175,22 @@ pub fn begin_list(state: State, kept: SectorList, list: &[u32], log: usize) -> L
 fn lent_to<'a>(state: State, list: &'a [u8], data: &'a [u8]) -> &'a [u8]
     ensures lent { result.now ≡ lent_to state.op list.now «data».now }
 {
-    let at_hand = state.op;
-    if qspi_operation::erases_list(at_hand) {
-        if 0 < data.len() {
-            let none: usize = 0;
-            return &list[..none];
-        }
-        let job = at_hand.job;
-        let lent = job.lent;
-        let n = lent.data;
-        if n < list.len() {
-            return &list[..n];
-        }
-        return list;
+    if !qspi_operation::erases_list(state.op) {
+        return data;
     }
-    data
+    if 0 < data.len() {
+        return &list[..0];
+    }
+    let n = state.op.job.lent.data;
+    if n < list.len() { &list[..n] } else { list }
 }
 
 // The access that is due.
-pub fn due<'a>(state: State, list: &'a [u8], data: &'a [u8]) -> Asked
+pub fn due<'a>(
+    state: State,
+    list: &'a [u8],
+    data: &'a [u8],
+) -> Result<Option<Due>, LentLengthChanged>
     ensures due { (result ≡ due_of state.op (lent_to state.op list.now «data».now)) × DueFollows state.op (lent_to state.op list.now «data».now) result }
 {
     let lent = lent_to(state, list, data);
@@ -221,17 +203,13 @@ pub fn answer_so_far(state: State) -> Progress
     let op = state.op;
     let status = op.status;
     let wire = op.wire;
-    let job = op.job;
-    let script = job.script;
-    let gives = script.gives;
-    let low_level = job.low_level;
     Progress {
         status,
         used: op.used,
         replies: op.replies,
         counted: qspi_operation::counted(op),
-        gives: run::given(status, gives),
-        clock: run::kept(status, low_level.clock),
+        gives: run::given(status, op.job.script.gives),
+        clock: run::kept(status, op.job.low_level.clock),
         older: run::kept(status, wire.older),
         old: run::kept(status, wire.old),
         last: run::kept(status, wire.last),
@@ -242,12 +220,9 @@ pub fn answer_so_far(state: State) -> Progress
 fn holding(stepped: Stepped) -> Acted
     ensures acted { result ≡ acted_by stepped }
 {
-    let op = stepped.op;
-    let status = stepped.answer;
-    let state = State { op };
     Acted {
-        state,
-        answer: Answer::Given(status),
+        state: State { op: stepped.op },
+        answer: Ok(stepped.answer),
     }
 }
 
@@ -258,7 +233,7 @@ pub fn step<'a>(
     data: &'a [u8],
     buffer: &mut [u8],
     log: &mut [u32],
-    reply: Reply,
+    reply: Option<u32>,
 ) -> Acted
     ensures acted { (result ≡ stepped_of state (lent_to state.op list.now «data».now) (length buffer.old) (length log.old) reply) × (buffer.new ≡ buffer_of state.op (lent_to state.op list.now «data».now) buffer.old (length log.old) reply) × (log.new ≡ log_of state.op (lent_to state.op list.now «data».now) (length buffer.old) log.old reply) × Steps state.op (lent_to state.op list.now «data».now) buffer.old log.old reply result.answer result.state.op buffer.new log.new }
 {
@@ -267,25 +242,15 @@ pub fn step<'a>(
 }
 
 // The next one of the replies that was not used, or none.
-pub fn next_reply(state: State, replies: &[u32]) -> Reply
+pub fn next_reply(state: State, replies: &[u32]) -> Option<u32>
     ensures reply { result ≡ reply_of replies.now state.op.replies }
 {
-    let op = state.op;
-    let at = op.replies;
-    if at < replies.len() {
-        Reply::Word(replies[at])
-    } else {
-        Reply::Nothing
-    }
+    replies.get(state.op.replies).copied()
 }
 
 // Whether a call is under way: a step is due.
-pub fn is_under_way(answer: Answer) -> bool
+pub fn is_under_way(answer: Result<Status, StartRefused>) -> bool
     ensures way { result ≡ is_under_way answer }
 {
-    match answer {
-        Answer::Given(status) => qspi_operation::is_going(status),
-        Answer::Busy => false,
-        Answer::ListMissing => false,
-    }
+    matches!(answer, Ok(Status::Going))
 }

@@ -11,9 +11,8 @@ use Rattle.qspi_script.specs.declared.Stage.{Stage}
 use Rattle.qspi_script.specs.declared.Stage.TheVariants as stage
 use Rattle.qspi_script.specs.declared.Place.{Place}
 use Rattle.qspi_operation.specs.declared.Op.{Op}
-use Rattle.qspi_operation.specs.declared.Reply.{Reply}
-use Rattle.qspi_operation.specs.declared.Reply.TheVariants.{Word, Nothing}
-use Rattle.qspi_operation.specs.declared.Verdict.TheVariants.{Ended, Changed, Full}
+use Rattle.std.specs.Prelude.{Option, Some, None}
+use Rattle.qspi_operation.specs.Step.{Ended, Changed, Full}
 use Rattle.qspi_operation.specs.Store.{when, store_byte, store_reply, is_taking, is_reading, skipped, stored}
 use Rattle.qspi_operation.specs.Step.{is_going, access_of, answered, choose, same_lengths, taken, buffer_of}
 use Rattle.qspi_operation.proofs.Verdicts.{no}
@@ -126,13 +125,13 @@ pub record AtTake (o : Op) (word i b : ℕ) : Type 0 where
   pub byte : ByteOf o.place (skipped o.job.reading.dummy) (o.wire.read_index - 4) word i b
 
 -- the step is handed that word, for a read of RX data
-pub record Takes (o : Op) (bytes : List ℕ) (r : Reply) (i b : ℕ) : Type 0 where
+pub record Takes (o : Op) (bytes : List ℕ) (r : Option ℕ) (i b : ℕ) : Type 0 where
   pub word : ℕ
-  pub reply : r ≡ Word word
+  pub reply : r ≡ Some word
   pub due : access_of o.job o.place o.wire bytes ≡ due.Read 0x20
   pub at : AtTake o word i b
 
-module _ (o : Op) (bytes buffer : List ℕ) (room : ℕ) (r : Reply) (i : ℕ) where
+module _ (o : Op) (bytes buffer : List ℕ) (room : ℕ) (r : Option ℕ) (i : ℕ) where
   -- what an access of value v leaves at i
   access_changes : (v : ℕ) → (get_or (stored o.job o.place o.wire v buffer) i 0 ≡ get_or buffer i 0) ⊎ AtTake o v i (get_or (stored o.job o.place o.wire v buffer) i 0)
   access_changes v = go (is_taking o.wire.phase) refl (is_reading o.place.stage) refl (leb 4 o.wire.read_index) refl
@@ -160,13 +159,13 @@ module _ (o : Op) (bytes buffer : List ℕ) (room : ℕ) (r : Reply) (i : ℕ) w
   pub changes_taken : (get_or (buffer_of o bytes buffer room r) i 0 ≡ get_or buffer i 0 → ⊥) → Takes o bytes r i (get_or (buffer_of o bytes buffer room r) i 0)
   changes_taken n = go (is_going o.status) (same_lengths o.job (length bytes) (length buffer) room) (leb (o.used + 2) room) (access_of o.job o.place o.wire bytes) refl r refl n
     where
-      go : (g l f : Bool) (w : Due) → access_of o.job o.place o.wire bytes ≡ w → (q : Reply) → r ≡ q
+      go : (g l f : Bool) (w : Due) → access_of o.job o.place o.wire bytes ≡ w → (q : Option ℕ) → r ≡ q
           → (get_or (taken (choose g (choose l (choose f (answered w q) Full) Changed) Ended) o buffer) i 0 ≡ get_or buffer i 0 → ⊥) → Takes o bytes r i (get_or (taken (choose g (choose l (choose f (answered w q) Full) Changed) Ended) o buffer) i 0)
       go false l f w e q h m = absurd (m refl)
       go true false f w e q h m = absurd (m refl)
       go true true false w e q h m = absurd (m refl)
-      go true true true (due.Read k) e Nothing h m = absurd (m refl)
-      go true true true (due.Read k) e (Word v) h m = by (access_changes v)
+      go true true true (due.Read k) e None h m = absurd (m refl)
+      go true true true (due.Read k) e (Some v) h m = by (access_changes v)
         where
           by : (get_or (stored o.job o.place o.wire v buffer) i 0 ≡ get_or buffer i 0) ⊎ AtTake o v i (get_or (stored o.job o.place o.wire v buffer) i 0)
               → Takes o bytes r i (get_or (stored o.job o.place o.wire v buffer) i 0)

@@ -6,8 +6,7 @@ use Rattle.zynq7000.specs.declared.qspi.Access.{Access}
 use Rattle.qspi_transfer.specs.Wire.{wire_next}
 use Rattle.qspi_transfer.specs.declared.Due.{Due}
 use Rattle.qspi_transfer.specs.declared.Due.TheVariants as due
-use Rattle.qspi_transfer.specs.declared.Moved.{Moved}
-use Rattle.qspi_transfer.specs.declared.Moved.TheVariants.{On, Over}
+use Rattle.qspi_transfer.specs.declared.Wire.{Wire}
 use Rattle.qspi_script.specs.Stages.{frame_of}
 use Rattle.qspi_script.specs.declared.Lent.{Lent}
 use Rattle.qspi_script.specs.declared.Job.{Job}
@@ -15,15 +14,12 @@ use Rattle.qspi_script.specs.declared.Status.{Status}
 use Rattle.qspi_script.specs.declared.Status.TheVariants.{LentLengthChanged}
 use Rattle.qspi_script.specs.Answer.{Answered}
 use Rattle.qspi_operation.specs.declared.Op.{Op}
-use Rattle.qspi_operation.specs.declared.Reply.{Reply}
-use Rattle.qspi_operation.specs.declared.Reply.TheVariants.{Word, Nothing}
-use Rattle.qspi_operation.specs.declared.Asked.{Asked}
-use Rattle.qspi_operation.specs.declared.Asked.TheVariants as asked
+use Rattle.std.specs.Prelude.{Option, Some, None, Ok}
 use Rattle.qspi_operation.specs.declared.Stepped.{Stepped}
-use Rattle.qspi_operation.specs.declared.Verdict.{Verdict}
-use Rattle.qspi_operation.specs.declared.Verdict.TheVariants.{Ended, Changed, Full, Dry, Made}
+use Rattle.qspi_operation.specs.Step.{Verdict}
+use Rattle.qspi_operation.specs.Step.{Ended, Changed, Full, Dry, Made}
 use Rattle.qspi_operation.specs.Machine.{want, nothing, bytes_in, overlaid, reads_of, Result}
-use Rattle.qspi_operation.specs.Step.{is_going, access_of, shown, answered, choose, same_lengths, verdict_of, act, moved_by, due_of, step_of, log_of, buffer_of, reply_of}
+use Rattle.qspi_operation.specs.Step.{Asked, is_going, access_of, shown, answered, choose, same_lengths, verdict_of, act, moved_by, due_of, step_of, log_of, buffer_of, reply_of}
 use Rattle.qspi_operation.specs.Run.{Run, here, run_at, run_of, fuel, Ran}
 use Rattle.qspi_operation.specs.Pass.{left}
 use Rattle.qspi_operation.specs.Points.{Lending, same_as, Point, wanted, step_at, access_at, logged_at, rest, end_of, ran_at, answer_at, changed_at}
@@ -36,9 +32,9 @@ use Rattle.qspi_operation.proofs.PointLaws.{made_more, logs_more, rest_if, rest_
 
 -- ---- the answer of a step is the status of the operation after it, but for 25
 
-answer_moved : (m : Moved) (o : Op) (u i : ℕ) → (moved_by m o u i).answer ≡ (moved_by m o u i).op.status
-answer_moved (On w) o u i = refl
-answer_moved Over o u i = refl
+answer_moved : (m : Option Wire) (o : Op) (u i : ℕ) → (moved_by m o u i).answer ≡ (moved_by m o u i).op.status
+answer_moved (Some w) o u i = refl
+answer_moved None o u i = refl
 
 answer_is : (v : Verdict) (o : Op) → (v ≡ Changed → ⊥) → (act v o).answer ≡ (act v o).op.status
 answer_is Ended o h = refl
@@ -58,18 +54,18 @@ is_changed (Made first v read) = false
 unchanged : {v : Verdict} → is_changed v ≡ false → v ≡ Changed → ⊥
 unchanged h e = no (sym h ∙ ap is_changed e)
 
-answered_is : (x : Due) (r : Reply) → is_changed (answered x r) ≡ false
-answered_is (due.Read o) (Word v) = refl
-answered_is (due.Read o) Nothing = refl
+answered_is : (x : Due) (r : Option ℕ) → is_changed (answered x r) ≡ false
+answered_is (due.Read o) (Some v) = refl
+answered_is (due.Read o) None = refl
 answered_is (due.Write o v) r = refl
 
-chosen_is : (g f : Bool) (x : Due) (r : Reply) → is_changed (choose g (choose true (choose f (answered x r) Full) Changed) Ended) ≡ false
+chosen_is : (g f : Bool) (x : Due) (r : Option ℕ) → is_changed (choose g (choose true (choose f (answered x r) Full) Changed) Ended) ≡ false
 chosen_is false f x r = refl
 chosen_is true false x r = refl
 chosen_is true true x r = answered_is x r
 
 -- lent the lengths of its start, it answers what it is then
-same_answer : (o : Op) (bytes : List ℕ) (n room : ℕ) (r : Reply) → same_lengths o.job (length bytes) n room ≡ true → (step_of o bytes n room r).answer ≡ (step_of o bytes n room r).op.status
+same_answer : (o : Op) (bytes : List ℕ) (n room : ℕ) (r : Option ℕ) → same_lengths o.job (length bytes) n room ≡ true → (step_of o bytes n room r).answer ≡ (step_of o bytes n room r).op.status
 same_answer o bytes n room r same =
     let e : is_changed (verdict_of o bytes n room r) ≡ false = rw same (chosen_is (is_going o.status) (leb (o.used + 2) room) (access_of o.job o.place o.wire bytes) r) in
     answer_is (verdict_of o bytes n room r) o (unchanged e)
@@ -81,7 +77,7 @@ module _ (o : Op) (g : Lending) (lent : o.job.lent ≡ lengths_of g) where
   same_all : same_lengths o.job (length g.bytes) (length g.buffer) g.room ≡ true
   same_all = rw (lent, eq-eqb (length g.bytes) (length g.bytes) refl, eq-eqb (length g.buffer) (length g.buffer) refl, eq-eqb g.room g.room refl)
 
-  answer_status : (r : Reply) → (step_of o g.bytes (length g.buffer) g.room r).answer ≡ (step_of o g.bytes (length g.buffer) g.room r).op.status
+  answer_status : (r : Option ℕ) → (step_of o g.bytes (length g.buffer) g.room r).answer ≡ (step_of o g.bytes (length g.buffer) g.room r).op.status
   answer_status r = same_answer o g.bytes (length g.buffer) g.room r same_all
 
 -- ---- an operation that follows
@@ -92,7 +88,7 @@ module _ (g : Lending) {p : Point} {o : Op} (f : Follows g p o) where
   shows = f.always []
 
   -- it follows on
-  pub on : (r : Reply) → Follows g (step_at g.room r p) (step_of o g.bytes (length g.buffer) g.room r).op
+  pub on : (r : Option ℕ) → Follows g (step_at g.room r p) (step_of o g.bytes (length g.buffer) g.room r).op
   on r = record { always = λ rs. f.always (r ∷ rs) }
 
   goes : is_going p.answer ≡ true → is_going o.status ≡ true
@@ -113,14 +109,14 @@ module _ (g : Lending) {p : Point} {o : Op} (f : Follows g p o) where
       ap answer_by e ∙ rw (u, i, n)
 
   -- and that of a step
-  step_status : (r : Reply) → (step_of o g.bytes (length g.buffer) g.room r).answer ≡ (step_at g.room r p).answer
+  step_status : (r : Option ℕ) → (step_of o g.bytes (length g.buffer) g.room r).answer ≡ (step_at g.room r p).answer
   step_status r = answer_status o g shows.lent r ∙ (f.always (r ∷ [])).status
 
-  step_answer : (r : Reply) → answer_by (step_of o g.bytes (length g.buffer) g.room r) ≡ answer_at (step_at g.room r p)
+  step_answer : (r : Option ℕ) → answer_by (step_of o g.bytes (length g.buffer) g.room r) ≡ answer_at (step_at g.room r p)
   step_answer r = ap (answer_with (step_of o g.bytes (length g.buffer) g.room r).op) (answer_status o g shows.lent r) ∙ (f.always (r ∷ [])).answer
 
   -- something is due while it goes on
-  unshown : (x : Due) → shown x ≡ asked.Nothing → ⊥
+  unshown : (x : Due) → shown x ≡ Ok None → ⊥
   unshown (due.Read k) e = let z : ◌≡◌ {A = ℕ} 0 1 = cc in omega (arith, z)
   unshown (due.Write k v) e = let z : ◌≡◌ {A = ℕ} 0 1 = cc in omega (arith, z)
 
@@ -128,7 +124,7 @@ module _ (g : Lending) {p : Point} {o : Op} (f : Follows g p o) where
   some e h =
       let d : length g.bytes ≡ o.job.lent.«data» = sym (ap (λ (l : Lent). l.«data») shows.lent) in
       let y : due_of o g.bytes ≡ shown (access_of o.job o.place o.wire g.bytes) = rw (goes e, eq-eqb (length g.bytes) o.job.lent.«data» d) in
-      let z : asked_for (wanted p) ≡ asked.Nothing = rw (e, h) in
+      let z : asked_for (wanted p) ≡ Ok None = rw (e, h) in
       unshown (access_of o.job o.place o.wire g.bytes) (sym y ∙ shows.due ∙ z)
 
 -- ---- a step
@@ -137,7 +133,7 @@ module _ (g : Lending) {p : Point} {o : Op} (f : Follows g p o) where
 leaves : {o : Op} {a : Status} {buffer log : List ℕ} {s : Stepped} {buffer₁ log₁ : List ℕ} → s ≡ record { op = o; answer = a } → log₁ ≡ log → buffer₁ ≡ buffer → Leaves o buffer log s buffer₁ log₁
 leaves e f h = record { op = ap (λ (x : Stepped). x.op) e; logged = f; stored = h }
 
-module _ (o : Op) (bytes buffer log : List ℕ) (r : Reply) where
+module _ (o : Op) (bytes buffer log : List ℕ) (r : Option ℕ) where
   pub on_step : {s : Stepped} {log₁ buffer₁ : List ℕ} → Promised o bytes buffer log r s log₁ buffer₁ → StepFollows o bytes buffer log r s buffer₁ log₁
   on_step {s} {log₁} {buffer₁} h g p f =
       let z : Shows g p o = f.always [] in
@@ -157,21 +153,10 @@ module _ (o : Op) (bytes buffer log : List ℕ) (r : Reply) where
             w ∙ z.stored r;
       }
 
-  -- what `step_at` promises
-  pub with_follows : {s : Stepped} {log₁ buffer₁ : List ℕ} → Promised o bytes buffer log r s log₁ buffer₁
-      → (s ≡ step_of o bytes (length buffer) (length log) r) × ((log₁ ≡ log_of o bytes (length buffer) log r) × ((buffer₁ ≡ buffer_of o bytes buffer (length log) r) × StepFollows o bytes buffer log r s buffer₁ log₁))
-  with_follows h = (h.0, (h.1.0, (h.1.1, on_step h)))
-
--- and `step`, out of the same with an equal reply
-pub with_reply : (o : Op) (bytes buffer log : List ℕ) {r q : Reply} {s : Stepped} {log₁ buffer₁ : List ℕ} → r ≡ q
-    → (s ≡ step_of o bytes (length buffer) (length log) r) × ((log₁ ≡ log_of o bytes (length buffer) log r) × ((buffer₁ ≡ buffer_of o bytes buffer (length log) r) × StepFollows o bytes buffer log r s buffer₁ log₁))
-    → (s ≡ step_of o bytes (length buffer) (length log) q) × ((log₁ ≡ log_of o bytes (length buffer) log q) × ((buffer₁ ≡ buffer_of o bytes buffer (length log) q) × StepFollows o bytes buffer log q s buffer₁ log₁))
-with_reply o bytes buffer log e h = rw (← e) h
-
 -- ---- a query
 
 module _ (o : Op) (bytes : List ℕ) where
-  on_due : {a : Asked} → a ≡ due_of o bytes → DueFollows o bytes a
+  pub on_due : {a : Asked} → a ≡ due_of o bytes → DueFollows o bytes a
   on_due h g p f =
       let z : Shows g p o = f.always [] in
       record {
@@ -179,9 +164,6 @@ module _ (o : Op) (bytes : List ℕ) where
         over = λ e. h ∙ rw (ended g f e);
         changed = λ e n. h ∙ rw (goes g f e, z.lent, n);
       }
-
-  pub with_due : {a : Asked} → a ≡ due_of o bytes → (a ≡ due_of o bytes) × DueFollows o bytes a
-  with_due h = (h, on_due h)
 
 -- ---- a run
 
@@ -207,7 +189,7 @@ module _ (g : Lending) (rs : List ℕ) where
       }
 
   -- a step, and the rest from there
-  joins : (p : Point) (r : Reply) (buffer log buffer' log' : List ℕ) (e : Run) → rest_at g.room rs p ≡ before (access_at g.room r p) (rest_at g.room rs (step_at g.room r p)) → log' ≡ logged_at g.room r p log
+  joins : (p : Point) (r : Option ℕ) (buffer log buffer' log' : List ℕ) (e : Run) → rest_at g.room rs p ≡ before (access_at g.room r p) (rest_at g.room rs (step_at g.room r p)) → log' ≡ logged_at g.room r p log
       → (buffer ≡ overlaid (bytes_in p.state) g.buffer → buffer' ≡ overlaid (bytes_in (step_at g.room r p).state) g.buffer) → Ends (step_at g.room r p) buffer' log' e → Ends p buffer log e
   joins p r buffer log buffer' log' e h k b i =
       let q = step_at g.room r p in
@@ -227,7 +209,7 @@ module _ (g : Lending) (rs : List ℕ) where
       }
 
   module _ (p : Point) (o : Op) (buffer log : List ℕ) (f : Follows g p o) (b : length buffer ≡ length g.buffer) (l : length log ≡ g.room) where
-    abbrev r : Reply
+    abbrev r : Option ℕ
     r = reply_of rs (reads_of p.made)
 
     abbrev log' : List ℕ

@@ -9,8 +9,7 @@ use Rattle.qspi_script.specs.declared.Status.{Status}
 use Rattle.qspi_script.specs.declared.Status.TheVariants.{Done, RepliesEnded, LogFull}
 use Rattle.qspi_script.specs.Answer.{said_by}
 use Rattle.qspi_operation.specs.declared.Op.{Op}
-use Rattle.qspi_operation.specs.declared.Reply.{Reply}
-use Rattle.qspi_operation.specs.declared.Reply.TheVariants.{Word, Nothing}
+use Rattle.std.specs.Prelude.{Option, Some, None}
 use Rattle.qspi_operation.specs.declared.Stepped.{Stepped}
 use Rattle.qspi_operation.specs.Machine.{Want, reads, writes, nothing, State, want, next, status_in, values_in, bytes_in, count_in, overlaid, reads_of, replies_of, Script, begin, Result, halt, logging, no_room, made, runs, called, Matches, m_read, m_write, Makes, after}
 use Rattle.qspi_operation.specs.Points.{Lending, same_as, Point, reached, outset, tried, filled, room_for, step_at, access_at, rest, ran_at}
@@ -101,11 +100,11 @@ module _ (s : State) (room : ℕ) where
         over = λ g. over_runs (room / 2 - length (p.made ++ a ∷ [])) (next p.state (value_word a)) [] g;
       }
 
-  tried_stands : (p : Point) (x : Want) → want p.state ≡ x → (r : Reply) → Stands s room p → 2 * length p.made + 2 ≤ room → Stands s room (tried x r p)
+  tried_stands : (p : Point) (x : Want) → want p.state ≡ x → (r : Option ℕ) → Stands s room p → 2 * length p.made + 2 ≤ room → Stands s room (tried x r p)
   unfolding runs
   tried_stands p nothing e r h l = h
-  tried_stands p (reads o) e (Word v) h l = one p (access.Read o v) h (rw e m_read) l
-  tried_stands p (reads o) e Nothing h l =
+  tried_stands p (reads o) e (Some v) h l = one p (access.Read o v) h (rw e m_read) l
+  tried_stands p (reads o) e None h l =
       let k : room / 2 - length p.made ≡ suc (room / 2 - length p.made - 1) = omega (arith, l) in
       halts p RepliesEnded h (λ z. let y : ◌≡◌ {A = ℕ} 0 1 = cc in omega (arith, y)) (rw (k, e))
   tried_stands p (writes o v) e r h l = one p (access.Write o v) h (rw e m_write) l
@@ -121,7 +120,7 @@ module _ (s : State) (room : ℕ) where
       halts p LogFull h (λ z. let y : ◌≡◌ {A = ℕ} 0 1 = cc in omega (arith, y)) (rw (k, e))
 
   -- a step keeps it
-  pub step_stands : (r : Reply) (p : Point) → Stands s room p → Stands s room (step_at room r p)
+  pub step_stands : (r : Option ℕ) (p : Point) → Stands s room p → Stands s room (step_at room r p)
   step_stands r p h = go (is_going p.answer) refl
     where
       there : (c : Bool) → leb (2 * length p.made + 2) room ≡ c → Stands s room (room_for c (want p.state) r p)
@@ -201,7 +200,7 @@ module _ (c : Script) (g : Lending) {o₀ : Op} (h : Begun g c o₀) (log₀ : L
         ap (λ (z : List ℕ). sets z (2 * length p.made) (encode l)) k.logged ∙ ap (λ (z : ℕ). sets (sets log₀ 0 (encode p.made)) z (encode l)) e
         ∙ sets_more (encode p.made) (encode l) log₀ 0 ∙ ap (sets log₀ 0) (sym (encode_append p.made l))
 
-    step_kept : (r : Reply) {s : Stepped} {buffer₁ log₁ : List ℕ} → StepFollows o g.bytes buffer log r s buffer₁ log₁ → Kept s.op buffer₁ log₁
+    step_kept : (r : Option ℕ) {s : Stepped} {buffer₁ log₁ : List ℕ} → StepFollows o g.bytes buffer log r s buffer₁ log₁ → Kept s.op buffer₁ log₁
     step_kept r f =
         let x = f g p k.follows in
         let y = x.steps refl as_wide as_long in
@@ -236,7 +235,7 @@ module _ (c : Script) (g : Lending) {o₀ : Op} (h : Begun g c o₀) (log₀ : L
               stored = x.stored e refl as_long k.stored;
             }
 
-    beside_kept : (bytes buffer' log' : List ℕ) (r : Reply) {s : Stepped} {buffer₁ log₁ : List ℕ} → (is_going o.status ≡ true → same_as g (length bytes) (length buffer') (length log') ≡ false)
+    beside_kept : (bytes buffer' log' : List ℕ) (r : Option ℕ) {s : Stepped} {buffer₁ log₁ : List ℕ} → (is_going o.status ≡ true → same_as g (length bytes) (length buffer') (length log') ≡ false)
         → StepFollows o bytes buffer' log' r s buffer₁ log₁ → Kept s.op buffer log
     beside_kept bytes buffer' log' r {s} d f = go (is_going p.answer) refl
       where

@@ -1,35 +1,27 @@
--- A pass of a run's loop stands for a step, the passes of a transfer are a part of the run, and so are its transfers. Assumes nothing.
-use Rattle.std.proofs.Common.{◌≡◌, ℕ, ◌+◌, ◌<◌, ◌≤◌, Bool, true, false, leb, List, length, sym, refl, ap, ◌∙◌, arith}
+-- A pass stands for a step, the passes of a transfer are a part of the run, and so are its transfers. Assumes nothing.
+use Rattle.std.proofs.Common.{◌≡◌, ℕ, ◌+◌, ◌<◌, ◌≤◌, Bool, true, false, List, length, sym, refl, ap, ◌∙◌, subst, arith}
+use Rattle.std.specs.Prelude.{Option, Some, None, Result, Ok, Err}
 use Rattle.qspi_transfer.specs.Wire.{wire_next}
-use Rattle.qspi_transfer.specs.declared.Due.{Due}
-use Rattle.qspi_transfer.specs.declared.Due.TheVariants as due
 use Rattle.qspi_transfer.specs.declared.Frame.{Frame}
-use Rattle.qspi_transfer.specs.declared.Moved.{Moved}
-use Rattle.qspi_transfer.specs.declared.Moved.TheVariants as moves
 use Rattle.qspi_transfer.specs.declared.Wire.{Wire}
 use Rattle.qspi_script.specs.Stages.{frame_of}
-use Rattle.qspi_script.specs.declared.Job.{Job}
-use Rattle.qspi_script.specs.declared.Place.{Place}
 use Rattle.qspi_script.specs.declared.Status.{Status}
 use Rattle.qspi_script.specs.declared.Status.TheVariants as status
-use Rattle.qspi_script.specs.declared.Status.TheVariants.{Going, LentLengthChanged}
-use Rattle.qspi_operation.specs.declared.How.{How}
-use Rattle.qspi_operation.specs.declared.How.TheVariants.{On, Over, Changed, Full, Dry}
+use Rattle.qspi_script.specs.declared.Status.TheVariants.{Going}
+use Rattle.qspi_operation.specs.declared.Accessed.{Accessed}
+use Rattle.qspi_operation.specs.declared.NoAccess.{NoAccess}
+use Rattle.qspi_operation.specs.declared.NoAccess.TheVariants.{LentLengthChanged, LogFull, RepliesEnded}
 use Rattle.qspi_operation.specs.declared.Op.{Op}
 use Rattle.qspi_operation.specs.declared.Passed.{Passed}
-use Rattle.qspi_operation.specs.declared.Reply.{Reply}
-use Rattle.qspi_operation.specs.declared.Reply.TheVariants.{Word, Nothing}
 use Rattle.qspi_operation.specs.declared.Stepped.{Stepped}
-use Rattle.qspi_operation.specs.declared.Verdict.{Verdict}
-use Rattle.qspi_operation.specs.declared.Verdict.TheVariants as verdict
 use Rattle.qspi_operation.specs.Store.{stored}
-use Rattle.qspi_operation.specs.Step.{is_going, access_of, answered, choose, same_lengths, going, verdict_of, act, moved_by, counted, noted, taken, written, step_of, log_of, buffer_of, reply_of}
-use Rattle.qspi_operation.specs.Pass.{is_on, passed_by, op_at, by_how, stands_for, left, Onward}
+use Rattle.qspi_operation.specs.Step.{Verdict, Ended, is_going, choose, going, verdict_of, moved_by, counted, written, step_of, log_of, buffer_of, reply_of}
+use Rattle.qspi_operation.specs.Pass.{verdict_on, refused, stands_for, left, Onward}
 use Rattle.qspi_operation.specs.Run.{run_at, fuel}
 use Rattle.qspi_operation.proofs.Runs.{Turn, turn}
 use Rattle.qspi_operation.proofs.Verdicts.{no, Promised, by_verdict, by_access}
 
--- only `Going` goes on, and only `On`
+-- only `Going` goes on
 pub going_is : (a : Status) → is_going a ≡ true → a ≡ Going
 going_is status.Going g = refl
 going_is status.Done g = no g
@@ -50,145 +42,76 @@ going_is status.ListTooLong g = no g
 
 -- ---- one pass
 
-abbrev as_it_is : Op → How → Passed
-as_it_is o h = record { wire = o.wire; used = o.used; replies = o.replies; how = h }
+module _ (o : Op) (bytes buffer log : List ℕ) (r : Option ℕ) (g : o.status ≡ Going) where
+  judged : {v : Verdict} → v ≡ going o bytes (length buffer) (length log) r → verdict_of o bytes (length buffer) (length log) r ≡ v
+  judged e = ap (λ (z : Status). choose (is_going z) (going o bytes (length buffer) (length log) r) Ended) g ∙ sym e
 
--- an operation that is going on is made of its parts
-normal : (o : Op) (h : How) → o.status ≡ Going → op_at o.job o.place (as_it_is o h) ≡ o
-normal o h g = ap (λ (z : Status). record { job = o.job; place = o.place; wire = o.wire; used = o.used; replies = o.replies; status = z }) (sym g)
+  pub refuses : (e : NoAccess) → verdict_on (Err e) ≡ going o bytes (length buffer) (length log) r → Promised o bytes buffer log r (stands_for (Err e) o) log buffer
+  refuses LentLengthChanged h = by_verdict o bytes buffer log r (judged h)
+  refuses LogFull h = by_verdict o bytes buffer log r (judged h)
+  refuses RepliesEnded h = by_verdict o bytes buffer log r (judged h)
 
-abbrev is_ended : Verdict → Bool
-is_ended verdict.Ended = true
-is_ended verdict.Changed = false
-is_ended verdict.Full = false
-is_ended verdict.Dry = false
-is_ended (verdict.Made first v read) = false
-
-not_ended : (l f : Bool) (d : Due) (r : Reply) → is_ended (choose l (choose f (answered d r) verdict.Full) verdict.Changed) ≡ false
-not_ended false f d r = refl
-not_ended true false d r = refl
-not_ended true true (due.Read o) (Word v) = refl
-not_ended true true (due.Read o) Nothing = refl
-not_ended true true (due.Write o v) r = refl
-
-moved_on : (m : Moved) (o : Op) (used replies : ℕ) → stands_for o.job o.place (passed_by m o.wire used replies) ≡ moved_by m o used replies
-moved_on (moves.On w) o used replies = refl
-moved_on moves.Over o used replies = refl
-
-module _ (o : Op) (bytes buffer log : List ℕ) (r : Reply) (g : o.status ≡ Going) where
-  abbrev pub Passes : Passed → List ℕ → List ℕ → Type 0
-  Passes x log₁ buffer₁ =
-      (stands_for o.job o.place x ≡ step_of o bytes (length buffer) (length log) r)
-      × ((log₁ ≡ log_of o bytes (length buffer) log r) × (buffer₁ ≡ buffer_of o bytes buffer (length log) r))
-
-  pub judged : {v : Verdict} → going o bytes (length buffer) (length log) r ≡ v → verdict_of o bytes (length buffer) (length log) r ≡ v
-  judged e = ap (λ (z : Status). choose (is_going z) (going o bytes (length buffer) (length log) r) verdict.Ended) g ∙ e
-
-  -- an operation that is going on is never told that it has ended
-  pub never : {A : Type 0} → going o bytes (length buffer) (length log) r ≡ verdict.Ended → A
-  never e = no (sym (not_ended (same_lengths o.job (length bytes) (length buffer) (length log)) (leb (o.used + 2) (length log)) (access_of o.job o.place o.wire bytes) r) ∙ ap is_ended e)
-
-  stays : (h : How) {v : Verdict} {x : Passed} → going o bytes (length buffer) (length log) r ≡ v → x ≡ as_it_is o h → by_how h (op_at o.job o.place (as_it_is o h)) ≡ act v o
-      → Passes x (noted v o.used log) (taken v o buffer)
-  stays h e f k =
-      let y = by_verdict o bytes buffer log r (judged e) in
-      (ap (stands_for o.job o.place) f ∙ k ∙ y.0, y.1)
-
-  pub changed : {x : Passed} → going o bytes (length buffer) (length log) r ≡ verdict.Changed → x ≡ as_it_is o Changed → Passes x log buffer
-  changed e f = stays Changed e f (ap (λ (z : Op). record { op = z; answer = LentLengthChanged }) (normal o Changed g))
-
-  pub full : {x : Passed} → going o bytes (length buffer) (length log) r ≡ verdict.Full → x ≡ as_it_is o Full → Passes x log buffer
-  full e f = stays Full e f refl
-
-  pub dry : {x : Passed} → going o bytes (length buffer) (length log) r ≡ verdict.Dry → x ≡ as_it_is o Dry → Passes x log buffer
-  dry e f = stays Dry e f refl
-
-  pub made : {first v n : ℕ} {read : Bool} {f : Frame} {x : Passed} {log₁ buffer₁ : List ℕ} → going o bytes (length buffer) (length log) r ≡ verdict.Made first v read → f ≡ frame_of o.job o.place
-      → n ≡ counted read o.replies → x ≡ passed_by (wire_next o.wire f v) o.wire (o.used + 2) n → log₁ ≡ written log o.used first v → buffer₁ ≡ stored o.job o.place o.wire v buffer
-      → Passes x log₁ buffer₁
-  made {v = v} {n = n} {f = f} e e₁ e₂ e₃ e₄ e₅ =
-      let y = by_access o bytes buffer log r (judged e) e₂ (ap (λ (z : Frame). moved_by (wire_next o.wire z v) o (o.used + 2) n) e₁) e₄ e₅ in
-      (ap (stands_for o.job o.place) e₃ ∙ moved_on (wire_next o.wire f v) o (o.used + 2) n ∙ y.0, y.1)
-
-  -- a step of an operation that is going on is the pass resolved
-  pub stepped : (x : Passed) {s : Stepped} {log₁ buffer₁ : List ℕ} → Passes x log₁ buffer₁ → s ≡ stands_for o.job o.place x
-      → (s ≡ step_of o bytes (length buffer) (length log) r) × ((log₁ ≡ log_of o bytes (length buffer) log r) × (buffer₁ ≡ buffer_of o bytes buffer (length log) r))
-  stepped x y e = (e ∙ y.0, y.1)
+  pub made : (a : Accessed) {n : ℕ} {f : Frame} {w : Option Wire} {log₁ buffer₁ : List ℕ} → verdict_on (Ok a) ≡ going o bytes (length buffer) (length log) r → f ≡ frame_of o.job o.place
+      → w ≡ wire_next o.wire f a.value → n ≡ counted a.read o.replies → log₁ ≡ written log o.used a.first a.value → buffer₁ ≡ stored o.job o.place o.wire a.value buffer
+      → Promised o bytes buffer log r (stands_for (Ok (record { wire = w; used = o.used + 2; replies = n })) o) log₁ buffer₁
+  made a {n = n} h e₁ e₂ e₃ e₄ e₅ =
+      by_access o bytes buffer log r (judged h) e₃ (ap (λ (z : Option Wire). moved_by z o (o.used + 2) n) (e₂ ∙ ap (λ (z : Frame). wire_next o.wire z a.value) e₁)) e₄ e₅
 
 -- an operation that has ended repeats its answer
-pub ended : (o : Op) (bytes buffer log : List ℕ) (r : Reply) → is_going o.status ≡ false → Promised o bytes buffer log r (record { op = o; answer = o.status }) log buffer
+pub ended : (o : Op) (bytes buffer log : List ℕ) (r : Option ℕ) → is_going o.status ≡ false → Promised o bytes buffer log r (record { op = o; answer = o.status }) log buffer
 ended o bytes buffer log r e =
-    by_verdict o bytes buffer log r (ap (λ (b : Bool). choose b (going o bytes (length buffer) (length log) r) verdict.Ended) e)
+    by_verdict o bytes buffer log r (ap (λ (b : Bool). choose b (going o bytes (length buffer) (length log) r) Ended) e)
 
 -- ---- the passes of a transfer
 
-abbrev pub passed_at : Wire → ℕ → ℕ → How → Passed
-passed_at w used replies h = record { wire = w; used = used; replies = replies; how = h }
+-- its operation so far
+abbrev pub at : Op → Wire → ℕ → ℕ → Op
+at o w used replies = record { job = o.job; place = o.place; wire = w; used = used; replies = replies; status = Going }
 
 -- how far a transfer has come: the run from there is the run from its start
-pub record Way (o : Op) (bytes rs buffer log : List ℕ) (on : Bool) (s : Stepped) (buffer₁ log₁ : List ℕ) : Type 0 where
-  pub same : run_at (fuel o log) true Going o bytes rs buffer log ≡ run_at (fuel s.op log₁) (is_going s.answer) s.answer s.op bytes rs buffer₁ log₁
-  pub most : left (is_going s.answer) (fuel s.op log₁) ≤ fuel o log
-  pub fewer : on ≡ false → left (is_going s.answer) (fuel s.op log₁) < fuel o log
+pub record Way (o : Op) (bytes rs buffer log : List ℕ) (o₁ : Op) (buffer₁ log₁ : List ℕ) : Type 0 where
+  pub same : run_at (fuel o log) true Going o bytes rs buffer log ≡ run_at (fuel o₁ log₁) true Going o₁ bytes rs buffer₁ log₁
+  pub most : fuel o₁ log₁ ≤ fuel o log
   pub long : length log₁ ≡ length log
   pub wide : length buffer₁ ≡ length buffer
 
-pub begins : (job : Job) (p : Place) (w : Wire) (used replies : ℕ) (bytes rs buffer log : List ℕ)
-    → Way (op_at job p (passed_at w used replies On)) bytes rs buffer log true (stands_for job p (passed_at w used replies On)) buffer log
-begins job p w used replies bytes rs buffer log = record { same = refl; most = omega arith; fewer = λ h. no (sym h); long = refl; wide = refl }
+pub begins : (o : Op) (bytes rs buffer log : List ℕ) → o.status ≡ Going → Way o bytes rs buffer log (at o o.wire o.used o.replies) buffer log
+begins o bytes rs buffer log g =
+    let e : at o o.wire o.used o.replies ≡ o = ap (λ (z : Status). record { job = o.job; place = o.place; wire = o.wire; used = o.used; replies = o.replies; status = z }) (sym g) in
+    record { same = ap (λ (z : Op). run_at (fuel z log) true Going z bytes rs buffer log) (sym e); most = omega arith; long = refl; wide = refl }
 
--- a pass leaves fewer steps
-less_by : (job : Job) (p : Place) (w : Wire) (used replies : ℕ) (h : How) (log : List ℕ) (n : ℕ) → left (is_going (stands_for job p (passed_at w used replies h)).answer) (fuel (stands_for job p (passed_at w used replies h)).op log) < n
-    → left (is_on h) (fuel (op_at job p (passed_at w used replies h)) log) < n
-less_by job p w used replies On log n k = k
-less_by job p w used replies Over log n k = omega (arith, k)
-less_by job p w used replies Changed log n k = omega (arith, k)
-less_by job p w used replies Full log n k = omega (arith, k)
-less_by job p w used replies Dry log n k = omega (arith, k)
+status_by : (x : Result Passed NoAccess) (o : Op) → is_going (stands_for x o).answer ≡ true → (stands_for x o).op.status ≡ Going
+status_by (Ok x) o h = go x.wire h
+  where
+    go : (w : Option Wire) → is_going (moved_by w o x.used x.replies).answer ≡ true → (moved_by w o x.used x.replies).op.status ≡ Going
+    go (Some w) k = refl
+    go None k = going_is (moved_by None o x.used x.replies).answer k
+status_by (Err LentLengthChanged) o h = no h
+status_by (Err LogFull) o h = no h
+status_by (Err RepliesEnded) o h = no h
 
-pub record Passing (o : Op) (job : Job) (p : Place) (bytes rs buffer₀ log₀ : List ℕ) (n : ℕ) (q : Passed) (buffer log : List ℕ) : Type 0 where
-  pub way : Way o bytes rs buffer₀ log₀ (is_on q.how) (stands_for job p q) buffer log
-  pub less : left (is_on q.how) (fuel (op_at job p q) log) < n
+module _ (o : Op) (bytes rs buffer log : List ℕ) (o₁ : Op) (buffer₁ log₁ : List ℕ) (y : Way o bytes rs buffer log o₁ buffer₁ log₁) (buffer₂ log₂ : List ℕ) where
+  abbrev pub Steps : Stepped → Type 0
+  Steps s = Promised o₁ bytes buffer₁ log₁ (reply_of rs o₁.replies) s log₂ buffer₂
 
-pub passing : (o : Op) (job : Job) (p : Place) (w : Wire) (used replies : ℕ) (h : How) (bytes rs buffer₀ log₀ buffer log : List ℕ) (q : Passed) (buffer₂ log₂ : List ℕ) → is_on h ≡ true
-    → Way o bytes rs buffer₀ log₀ (is_on h) (stands_for job p (passed_at w used replies h)) buffer log
-    → stands_for job p q ≡ step_of (op_at job p (passed_at w used replies h)) bytes (length buffer) (length log) (reply_of rs replies)
-    → log₂ ≡ log_of (op_at job p (passed_at w used replies h)) bytes (length buffer) log (reply_of rs replies)
-    → buffer₂ ≡ buffer_of (op_at job p (passed_at w used replies h)) bytes buffer (length log) (reply_of rs replies)
-    → Passing o job p bytes rs buffer₀ log₀ (left (is_on h) (fuel (op_at job p (passed_at w used replies h)) log)) q buffer₂ log₂
-passing o job p w used replies On bytes rs buffer₀ log₀ buffer log q buffer₂ log₂ g y e₁ e₂ e₃ =
-    let t : Turn true Going (op_at job p (passed_at w used replies On)) bytes rs buffer log (stands_for job p q) buffer₂ log₂ = turn true Going (op_at job p (passed_at w used replies On)) bytes rs buffer log (stands_for job p q) buffer₂ log₂ refl e₁ e₂ e₃ in
-    record {
-      way = record { same = y.same ∙ t.same; most = omega (arith, y.most, t.fewer); fewer = λ k. omega (arith, y.most, t.fewer); long = t.long ∙ y.long; wide = t.wide ∙ y.wide };
-      less = less_by job p q.wire q.used q.replies q.how log₂ (fuel (op_at job p (passed_at w used replies On)) log) t.fewer;
-    }
-passing o job p w used replies Over bytes rs buffer₀ log₀ buffer log q buffer₂ log₂ g y e₁ e₂ e₃ = no g
-passing o job p w used replies Changed bytes rs buffer₀ log₀ buffer log q buffer₂ log₂ g y e₁ e₂ e₃ = no g
-passing o job p w used replies Full bytes rs buffer₀ log₀ buffer log q buffer₂ log₂ g y e₁ e₂ e₃ = no g
-passing o job p w used replies Dry bytes rs buffer₀ log₀ buffer log q buffer₂ log₂ g y e₁ e₂ e₃ = no g
+  -- a pass that is not the last one is a part of the run as it stands
+  turns : (s : Stepped) → Steps s → Turn true Going o₁ bytes rs buffer₁ log₁ s buffer₂ log₂
+  turns s p = turn true Going o₁ bytes rs buffer₁ log₁ s buffer₂ log₂ refl p.0 p.1.0 p.1.1
 
--- ---- a transfer is a part of the run
+  pub onward : (x : Result Passed NoAccess) {s : Stepped} → Steps (stands_for x o₁) → s ≡ stands_for x o₁ → Onward o bytes rs buffer log s buffer₂ log₂
+  onward x p e =
+      let t = turns (stands_for x o₁) p in
+      rw e (record { same = y.same ∙ t.same; fewer = omega (arith, y.most, t.fewer); long = t.long ∙ y.long; wide = t.wide ∙ y.wide; status = status_by x o₁ })
 
-status_by : (h : How) (o : Op) → o.status ≡ Going → is_going (by_how h o).answer ≡ true → (by_how h o).op.status ≡ Going
-status_by On o e g = e
-status_by Over o e g = going_is (by_how Over o).answer g
-status_by Changed o e g = no g
-status_by Full o e g = no g
-status_by Dry o e g = no g
+  -- where the transfer goes on
+  pub record Goes (w : Wire) (used replies : ℕ) : Type 0 where
+    pub way : Way o bytes rs buffer log (at o₁ w used replies) buffer₂ log₂
+    pub less : fuel (at o₁ w used replies) log₂ < fuel o₁ log₁
 
-pub onward : (o : Op) (w : Wire) (used replies : ℕ) (h : How) (bytes rs buffer log buffer₁ log₁ : List ℕ) {s : Stepped} → o.status ≡ Going → is_on h ≡ false
-    → Way (op_at o.job o.place (as_it_is o On)) bytes rs buffer log (is_on h) (stands_for o.job o.place (passed_at w used replies h)) buffer₁ log₁
-    → s ≡ stands_for o.job o.place (passed_at w used replies h) → Onward o bytes rs buffer log s buffer₁ log₁
-onward o w used replies h bytes rs buffer log buffer₁ log₁ g k y e =
-    let f = y.fewer k in
-    rw e
-    (record {
-      same = ap (λ (z : Op). run_at (fuel z log) true Going z bytes rs buffer log) (sym (normal o On g)) ∙ y.same;
-      fewer = f;
-      long = y.long;
-      wide = y.wide;
-      status = status_by h (op_at o.job o.place (passed_at w used replies h)) refl;
-    })
+  pub goes : (x : Passed) (w : Wire) → Steps (stands_for (Ok x) o₁) → x.wire ≡ Some w → Goes w x.used x.replies
+  goes x w p e =
+      let t : Turn true Going o₁ bytes rs buffer₁ log₁ (moved_by (Some w) o₁ x.used x.replies) buffer₂ log₂ = turns (moved_by (Some w) o₁ x.used x.replies) (subst (λ (z : Option Wire). Steps (moved_by z o₁ x.used x.replies)) e p) in
+      record { way = record { same = y.same ∙ t.same; most = omega (arith, y.most, t.fewer); long = t.long ∙ y.long; wide = t.wide ∙ y.wide }; less = t.fewer }
 
 -- ---- a turn of the run's loop
 

@@ -5,9 +5,8 @@ use Rattle.zynq7000.specs.Access.{encode}
 use Rattle.zynq7000.specs.declared.qspi.Access.{Access}
 use Rattle.zynq7000.specs.declared.qspi.Access.TheVariants as access
 use Rattle.zynq7000.proofs.AccessLaws.{length_encode}
-use Rattle.qspi_operation.specs.declared.Reply.{Reply}
-use Rattle.qspi_operation.specs.declared.Reply.TheVariants.{Word, Nothing}
-use Rattle.qspi_operation.specs.Machine.{Want, reads, writes, nothing, State, going, ended, want, next, status_in, Result, halt, logging, made, runs, reads_of}
+use Rattle.std.specs.Prelude.{Option, Some, None}
+use Rattle.qspi_operation.specs.Machine.{Want, reads, writes, nothing, State, going, ended, want, next, status_in, Result, halt, logging, runs, reads_of}
 use Rattle.qspi_operation.specs.Points.{Point, reached, wanted, tried, filled, room_for, step_at, access_if, access_at, rest}
 use Rattle.qspi_operation.specs.Orders.{before}
 use Rattle.qspi_operation.specs.Step.{is_going, reply_of, pick_reply}
@@ -50,20 +49,20 @@ reads_few (access.Write o v ∷ l) = omega (arith, reads_few l)
 -- ---- a step
 
 -- the accesses made after it
-pub made_more : (room : ℕ) (r : Reply) (p : Point) → (step_at room r p).made ≡ p.made ++ access_at room r p
+pub made_more : (room : ℕ) (r : Option ℕ) (p : Point) → (step_at room r p).made ≡ p.made ++ access_at room r p
 made_more room r p = go (leb (2 * length p.made + 2) room) (wanted p) r
   where
-    go : (b : Bool) (x : Want) (r : Reply) → (room_for b x r p).made ≡ p.made ++ access_if b x r
+    go : (b : Bool) (x : Want) (r : Option ℕ) → (room_for b x r p).made ≡ p.made ++ access_if b x r
     go false nothing r = sym (append-nil p.made)
     go false (reads o) r = sym (append-nil p.made)
     go false (writes o v) r = sym (append-nil p.made)
     go true nothing r = sym (append-nil p.made)
-    go true (reads o) (Word v) = refl
-    go true (reads o) Nothing = sym (append-nil p.made)
+    go true (reads o) (Some v) = refl
+    go true (reads o) None = sym (append-nil p.made)
     go true (writes o v) r = refl
 
 -- an ended call stays where it is, and makes none
-pub stays : (room : ℕ) (r : Reply) (p : Point) → is_going p.answer ≡ false → (step_at room r p ≡ p) × (access_at room r p ≡ [])
+pub stays : (room : ℕ) (r : Option ℕ) (p : Point) → is_going p.answer ≡ false → (step_at room r p ≡ p) × (access_at room r p ≡ [])
 stays room r p e = rw e (go (leb (2 * length p.made + 2) room))
   where
     go : (b : Bool) → (room_for b nothing r p ≡ p) × (access_if b nothing r ≡ [])
@@ -71,19 +70,19 @@ stays room r p e = rw e (go (leb (2 * length p.made + 2) room))
     go false = (refl, refl)
 
 -- the log never grows past its room
-pub step_short : (room : ℕ) (r : Reply) (p : Point) → 2 * length p.made ≤ room → 2 * length (step_at room r p).made ≤ room
+pub step_short : (room : ℕ) (r : Option ℕ) (p : Point) → 2 * length p.made ≤ room → 2 * length (step_at room r p).made ≤ room
 step_short room r p h = go (leb (2 * length p.made + 2) room) refl (wanted p) r
   where
     last : (a : Access) → leb (2 * length p.made + 2) room ≡ true → 2 * length (p.made ++ a ∷ []) ≤ room
     last a e = let n : length (p.made ++ a ∷ []) ≡ length p.made + 1 = length-append p.made (a ∷ []) in omega (arith, n, leb-true (2 * length p.made + 2) room e)
 
-    go : (b : Bool) → leb (2 * length p.made + 2) room ≡ b → (x : Want) (r : Reply) → 2 * length (room_for b x r p).made ≤ room
+    go : (b : Bool) → leb (2 * length p.made + 2) room ≡ b → (x : Want) (r : Option ℕ) → 2 * length (room_for b x r p).made ≤ room
     go false e nothing r = h
     go false e (reads o) r = h
     go false e (writes o v) r = h
     go true e nothing r = h
-    go true e (reads o) (Word v) = last (access.Read o v) e
-    go true e (reads o) Nothing = h
+    go true e (reads o) (Some v) = last (access.Read o v) e
+    go true e (reads o) None = h
     go true e (writes o v) r = last (access.Write o v) e
 
 -- ---- the rest of a call, ended ones included
@@ -143,7 +142,7 @@ module _ (room : ℕ) (rs : List ℕ) (p : Point) (some : want p.state ≡ nothi
       rw (e, f) (one (access.Write o v) (next p.state v) (drop at rs) m (fewer (access.Write o v) m e) (ap (λ (z : ℕ). drop z rs) (sym k)))
   has_room m e (reads o) f = go (ltb at (length rs)) refl
     where
-      go : (b : Bool) → ltb at (length rs) ≡ b → runs n p.state (drop at rs) ≡ before (access_if true (reads o) (pick_reply b (Word (get_or rs at 0)) Nothing)) (rest_at room rs (tried (reads o) (pick_reply b (Word (get_or rs at 0)) Nothing) p))
+      go : (b : Bool) → ltb at (length rs) ≡ b → runs n p.state (drop at rs) ≡ before (access_if true (reads o) (pick_reply b (Some (get_or rs at 0)) None)) (rest_at room rs (tried (reads o) (pick_reply b (Some (get_or rs at 0)) None) p))
       go true g =
           let v = get_or rs at 0 in
           let k : reads_of (p.made ++ access.Read o v ∷ []) ≡ suc at = reads_last p.made (access.Read o v) ∙ (let z : at + 1 ≡ suc at = omega arith in z) in
@@ -154,7 +153,7 @@ module _ (room : ℕ) (rs : List ℕ) (p : Point) (some : want p.state ≡ nothi
   pub step_rest : is_going p.answer ≡ true → rest room rs p ≡ before (access_at room (reply_of rs at) p) (rest_at room rs (step_at room (reply_of rs at) p))
   step_rest g = rw g (go (leb (2 * length p.made + 2) room) refl)
     where
-      filled_none : (x : Want) (r : Reply) → access_if false x r ≡ []
+      filled_none : (x : Want) (r : Option ℕ) → access_if false x r ≡ []
       filled_none x r = refl
 
       go : (b : Bool) → leb (2 * length p.made + 2) room ≡ b → runs n p.state (drop at rs) ≡ before (access_if b (want p.state) (reply_of rs at)) (rest_at room rs (room_for b (want p.state) (reply_of rs at) p))

@@ -5,12 +5,11 @@ use borrow.Author.Tests.{lt-leb}
 use Rattle.qspi_transfer.specs.declared.Due.TheVariants as due
 use Rattle.qspi_script.specs.declared.Status.TheVariants.{LentLengthChanged, LogFull, RepliesEnded}
 use Rattle.qspi_operation.specs.declared.Op.{Op}
-use Rattle.qspi_operation.specs.declared.Reply.{Reply}
-use Rattle.qspi_operation.specs.declared.Reply.TheVariants.{Word, Nothing}
+use Rattle.std.specs.Prelude.{Option, Some, None}
 use Rattle.qspi_operation.specs.Store.{stored}
 use Rattle.qspi_operation.specs.Step.{is_going, access_of, same_lengths, step_of, log_of, buffer_of, stopped, moved, written}
 
-module _ (o : Op) (bytes buffer log : List ℕ) (r : Reply) where
+module _ (o : Op) (bytes buffer log : List ℕ) (r : Option ℕ) where
   -- "An ended operation stepped again repeats its answer", whatever is lent, and changes nothing
   pub ended_repeats : is_going o.status ≡ false
       → (step_of o bytes (length buffer) (length log) r ≡ record { op = o; answer = o.status }) × ((log_of o bytes (length buffer) log r ≡ log) × (buffer_of o bytes buffer (length log) r ≡ buffer))
@@ -35,12 +34,12 @@ module _ (o : Op) (bytes buffer log : List ℕ) (r : Reply) where
         e = le-leb (o.used + 2) (length log) h
 
         -- 23: a read is due, and there is no reply
-        pub dry : (k : ℕ) → access_of o.job o.place o.wire bytes ≡ due.Read k → r ≡ Nothing
+        pub dry : (k : ℕ) → access_of o.job o.place o.wire bytes ≡ due.Read k → r ≡ None
             → (step_of o bytes (length buffer) (length log) r ≡ stopped o RepliesEnded) × ((log_of o bytes (length buffer) log r ≡ log) × (buffer_of o bytes buffer (length log) r ≡ buffer))
         dry k d n = (rw (g, l, e, d, n), (rw (g, l, e, d, n), rw (g, l, e, d, n)))
 
         -- the read that was due is logged with the reply's word, and one reply is used
-        pub reads : (k v : ℕ) → access_of o.job o.place o.wire bytes ≡ due.Read k → r ≡ Word v
+        pub reads : (k v : ℕ) → access_of o.job o.place o.wire bytes ≡ due.Read k → r ≡ Some v
             → (step_of o bytes (length buffer) (length log) r ≡ moved o (o.used + 2) ((o.replies + 1) % 2 ^ 64) v) × ((log_of o bytes (length buffer) log r ≡ written log o.used (0x100 + k) v) × (buffer_of o bytes buffer (length log) r ≡ stored o.job o.place o.wire v buffer))
         reads k v d n = (rw (g, l, e, d, n), (rw (g, l, e, d, n), rw (g, l, e, d, n)))
 

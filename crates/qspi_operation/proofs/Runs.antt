@@ -7,13 +7,12 @@ use Rattle.qspi_script.specs.declared.Job.{Job}
 use Rattle.qspi_script.specs.declared.Place.{Place}
 use Rattle.qspi_transfer.specs.Wire.{wire_next}
 use Rattle.qspi_transfer.specs.declared.Wire.{Wire}
-use Rattle.qspi_transfer.specs.declared.Moved.{Moved}
-use Rattle.qspi_transfer.specs.declared.Moved.TheVariants.{On, Over}
+use Rattle.std.specs.Prelude.{Some, None}
 use Rattle.qspi_operation.specs.declared.Op.{Op}
-use Rattle.qspi_operation.specs.declared.Reply.{Reply}
+use Rattle.std.specs.Prelude.{Option}
 use Rattle.qspi_operation.specs.declared.Stepped.{Stepped}
-use Rattle.qspi_operation.specs.declared.Verdict.{Verdict}
-use Rattle.qspi_operation.specs.declared.Verdict.TheVariants.{Ended, Changed, Full, Dry, Made}
+use Rattle.qspi_operation.specs.Step.{Verdict}
+use Rattle.qspi_operation.specs.Step.{Ended, Changed, Full, Dry, Made}
 use Rattle.qspi_operation.specs.Store.{when, store_byte, store_reply, stored, is_taking, is_reading, skipped}
 use Rattle.qspi_operation.specs.Step.{is_going, verdict_of, act, moved, moved_by, counted, noted, taken, reply_of, step_of, log_of, buffer_of}
 use Rattle.qspi_operation.specs.Run.{here, run_at, run_of, fuel}
@@ -43,7 +42,7 @@ kept_by Full at log = refl
 kept_by Dry at log = refl
 kept_by (Made first v read) at log = simp length-set
 
-pub kept : (o : Op) (bytes : List ℕ) (n : ℕ) (log : List ℕ) (r : Reply) → length (log_of o bytes n log r) ≡ length log
+pub kept : (o : Op) (bytes : List ℕ) (n : ℕ) (log : List ℕ) (r : Option ℕ) → length (log_of o bytes n log r) ≡ length log
 kept o bytes n log r = kept_by (verdict_of o bytes n (length log) r) o.used log
 
 when_kept : (b : Bool) (x y : List ℕ) {n : ℕ} → length x ≡ n → length y ≡ n → length (when b x y) ≡ n
@@ -74,7 +73,7 @@ taken_kept Full o buffer = refl
 taken_kept Dry o buffer = refl
 taken_kept (Made first v read) o buffer = stored_kept o.job o.place o.wire v buffer
 
-pub buffer_kept : (o : Op) (bytes buffer : List ℕ) (n : ℕ) (r : Reply) → length (buffer_of o bytes buffer n r) ≡ length buffer
+pub buffer_kept : (o : Op) (bytes buffer : List ℕ) (n : ℕ) (r : Option ℕ) → length (buffer_of o bytes buffer n r) ≡ length buffer
 buffer_kept o bytes buffer n r = taken_kept (verdict_of o bytes (length buffer) n r) o buffer
 
 -- ---- one step fewer
@@ -82,9 +81,9 @@ buffer_kept o bytes buffer n r = taken_kept (verdict_of o bytes (length buffer) 
 used_by : (o : Op) (u i v : ℕ) → (moved o u i v).op.used ≡ u
 used_by o u i v = go (wire_next o.wire (frame_of o.job o.place) v)
   where
-    go : (m : Moved) → (moved_by m o u i).op.used ≡ u
-    go (On w) = refl
-    go Over = refl
+    go : (m : Option Wire) → (moved_by m o u i).op.used ≡ u
+    go (Some w) = refl
+    go None = refl
 
 fewer : (v : Verdict) (o : Op) (log : List ℕ) → makes v ≡ true → o.used + 2 ≤ length log → (length log - o.used) / 2 ≡ fuel (act v o).op (noted v o.used log)
 fewer Ended o log h p = no h
@@ -96,7 +95,7 @@ fewer (Made first v read) o log h p =
     simp (length-set, e) (omega arith)
 
 module _ (o : Op) (bytes rs buffer log : List ℕ) where
-  abbrev r : Reply
+  abbrev r : Option ℕ
   r = reply_of rs o.replies
 
   abbrev o' : Op
@@ -165,12 +164,12 @@ job_by Full o = refl
 job_by Dry o = refl
 job_by (Made first v read) o = go (wire_next o.wire (frame_of o.job o.place) v)
   where
-    go : (m : Moved) → (moved_by m o (o.used + 2) (counted read o.replies)).op.job ≡ o.job
-    go (On w) = refl
-    go Over = refl
+    go : (m : Option Wire) → (moved_by m o (o.used + 2) (counted read o.replies)).op.job ≡ o.job
+    go (Some w) = refl
+    go None = refl
 
 -- THEOREM. Steps do not change what the call was asked for.
-pub step_job : (o : Op) (bytes : List ℕ) (n room : ℕ) (r : Reply) → (step_of o bytes n room r).op.job ≡ o.job
+pub step_job : (o : Op) (bytes : List ℕ) (n room : ℕ) (r : Option ℕ) → (step_of o bytes n room r).op.job ≡ o.job
 step_job o bytes n room r = job_by (verdict_of o bytes n room r) o
 
 keeps_at : (n : ℕ) (b : Bool) (a : Status) (o : Op) (bytes rs buffer log : List ℕ) → ((run_at n b a o bytes rs buffer log).op.job ≡ o.job) × (length (run_at n b a o bytes rs buffer log).buffer ≡ length buffer)

@@ -3,12 +3,11 @@ use Rattle.std.proofs.Common.{◌≡◌, ℕ, ◌+◌, ◌≤◌, Bool, true, fa
 use Rattle.qspi_transfer.specs.declared.Due.{Due}
 use Rattle.qspi_transfer.specs.declared.Due.TheVariants as due
 use Rattle.qspi_operation.specs.declared.Op.{Op}
-use Rattle.qspi_operation.specs.declared.Reply.{Reply}
-use Rattle.qspi_operation.specs.declared.Reply.TheVariants.{Word, Nothing}
+use Rattle.std.specs.Prelude.{Option, Some, None}
 use Rattle.qspi_operation.specs.declared.Stepped.{Stepped}
-use Rattle.qspi_operation.specs.declared.Verdict.{Verdict}
+use Rattle.qspi_operation.specs.Step.{Verdict}
 use Rattle.qspi_operation.specs.Store.{stored}
-use Rattle.qspi_operation.specs.declared.Verdict.TheVariants.{Ended, Changed, Full, Dry, Made}
+use Rattle.qspi_operation.specs.Step.{Ended, Changed, Full, Dry, Made}
 use Rattle.qspi_operation.specs.Step.{is_going, access_of, answered, choose, same_lengths, verdict_of, act, step_of, log_of, buffer_of, noted, taken, counted, moved, written}
 
 pub no : {A : Type 0} → false ≡ true → A
@@ -28,28 +27,28 @@ room_by true true false x h = no h
 room_by true false f x h = no h
 room_by false l f x h = no h
 
-pub room : (o : Op) (bytes : List ℕ) (buffer n : ℕ) (r : Reply) → makes (verdict_of o bytes buffer n r) ≡ true → o.used + 2 ≤ n
+pub room : (o : Op) (bytes : List ℕ) (buffer n : ℕ) (r : Option ℕ) → makes (verdict_of o bytes buffer n r) ≡ true → o.used + 2 ≤ n
 room o bytes buffer n r h =
     leb-true (o.used + 2) n
     (room_by (is_going o.status) (same_lengths o.job (length bytes) buffer n) (leb (o.used + 2) n) (answered (access_of o.job o.place o.wire bytes) r) h)
 
-ends_by : (g l f : Bool) (x : Due) (r : Reply) (o : Op) → is_going o.status ≡ g → makes (choose g (choose l (choose f (answered x r) Full) Changed) Ended) ≡ false
+ends_by : (g l f : Bool) (x : Due) (r : Option ℕ) (o : Op) → is_going o.status ≡ g → makes (choose g (choose l (choose f (answered x r) Full) Changed) Ended) ≡ false
     → is_going (act (choose g (choose l (choose f (answered x r) Full) Changed) Ended) o).answer ≡ false
 ends_by false l f x r o e h = e
 ends_by true false f x r o e h = refl
 ends_by true true false x r o e h = refl
-ends_by true true true (due.Read a) (Word v) o e h = no (sym h)
-ends_by true true true (due.Read a) Nothing o e h = refl
+ends_by true true true (due.Read a) (Some v) o e h = no (sym h)
+ends_by true true true (due.Read a) None o e h = refl
 ends_by true true true (due.Write a v) r o e h = no (sym h)
 
 -- a step that makes no access ends the run
-pub ends : (o : Op) (bytes : List ℕ) (buffer n : ℕ) (r : Reply) → makes (verdict_of o bytes buffer n r) ≡ false → is_going (step_of o bytes buffer n r).answer ≡ false
+pub ends : (o : Op) (bytes : List ℕ) (buffer n : ℕ) (r : Option ℕ) → makes (verdict_of o bytes buffer n r) ≡ false → is_going (step_of o bytes buffer n r).answer ≡ false
 ends o bytes buffer n r h =
     ends_by (is_going o.status) (same_lengths o.job (length bytes) buffer n) (leb (o.used + 2) n) (access_of o.job o.place o.wire bytes) r o refl h
 
 -- ---- state, log and buffer all follow from the verdict
 
-module _ (o : Op) (bytes buffer log : List ℕ) (r : Reply) where
+module _ (o : Op) (bytes buffer log : List ℕ) (r : Option ℕ) where
   abbrev pub Promised : Stepped → List ℕ → List ℕ → Type 0
   Promised s log₁ buffer₁ =
       (s ≡ step_of o bytes (length buffer) (length log) r)
@@ -66,5 +65,5 @@ module _ (o : Op) (bytes buffer log : List ℕ) (r : Reply) where
       (g ∙ ap (λ (z : ℕ). moved o (o.used + 2) z v) f ∙ y.0, (h ∙ y.1.0, k ∙ y.1.1))
 
 -- what is promised with one reply is promised with the same reply
-pub replied : (o : Op) (bytes buffer log : List ℕ) {r q : Reply} {s : Stepped} {log₁ buffer₁ : List ℕ} → r ≡ q → Promised o bytes buffer log r s log₁ buffer₁ → Promised o bytes buffer log q s log₁ buffer₁
+pub replied : (o : Op) (bytes buffer log : List ℕ) {r q : Option ℕ} {s : Stepped} {log₁ buffer₁ : List ℕ} → r ≡ q → Promised o bytes buffer log r s log₁ buffer₁ → Promised o bytes buffer log q s log₁ buffer₁
 replied o bytes buffer log e h = rw (← e) h

@@ -5,13 +5,12 @@ use Rattle.qspi_script.specs.declared.Status.{Status}
 use Rattle.qspi_script.specs.declared.Lent.{Lent}
 use Rattle.qspi_script.specs.Answer.{Answered, said_by, values_of}
 use Rattle.qspi_operation.specs.declared.Op.{Op}
-use Rattle.qspi_operation.specs.declared.Reply.{Reply}
-use Rattle.qspi_operation.specs.declared.Asked.{Asked}
-use Rattle.qspi_operation.specs.declared.Asked.TheVariants as asked
+use Rattle.std.specs.Prelude.{Option, Some, None, Ok}
+use Rattle.qspi_transfer.specs.declared.Due.TheVariants as due
 use Rattle.qspi_operation.specs.declared.Stepped.{Stepped}
 use Rattle.qspi_operation.specs.Machine.{Want, reads, writes, nothing, bytes_in, overlaid, Script, begin}
 use Rattle.qspi_operation.specs.Points.{Lending, same_as, Point, outset, wanted, step_at, logged_at, steps_at, ran_at, ran_log, answer_at, changed_at}
-use Rattle.qspi_operation.specs.Step.{is_going, due_of, step_of, log_of, buffer_of, counted_of}
+use Rattle.qspi_operation.specs.Step.{Asked, length_changed, is_going, due_of, step_of, log_of, buffer_of, counted_of}
 
 -- ---- the answers of the code, by 01's numbers and values
 
@@ -30,9 +29,9 @@ abbrev pub answer_by : Stepped → Answered
 answer_by s = answer_with s.op s.answer
 
 abbrev pub asked_for : Want → Asked
-asked_for (reads o) = asked.Read o
-asked_for (writes o v) = asked.Write o v
-asked_for nothing = asked.Nothing
+asked_for (reads o) = Ok (Some (due.Read o))
+asked_for (writes o v) = Ok (Some (due.Write o v))
+asked_for nothing = Ok None
 
 -- ---- an operation that follows
 
@@ -46,18 +45,18 @@ pub record Shows (g : Lending) (p : Point) (o : Op) : Type 0 where
   pub answer : answer_of o ≡ answer_at p
   pub due : due_of o g.bytes ≡ asked_for (wanted p)
   -- what the next step leaves in the log and in the buffer, whatever it is handed
-  pub logged : (r : Reply) (log : List ℕ) → length log ≡ g.room → log_of o g.bytes (length g.buffer) log r ≡ logged_at g.room r p log
+  pub logged : (r : Option ℕ) (log : List ℕ) → length log ≡ g.room → log_of o g.bytes (length g.buffer) log r ≡ logged_at g.room r p log
   pub wide : length (overlaid (bytes_in p.state) g.buffer) ≡ length g.buffer
-  pub stored : (r : Reply) → buffer_of o g.bytes (overlaid (bytes_in p.state) g.buffer) g.room r ≡ overlaid (bytes_in (step_at g.room r p).state) g.buffer
+  pub stored : (r : Option ℕ) → buffer_of o g.bytes (overlaid (bytes_in p.state) g.buffer) g.room r ≡ overlaid (bytes_in (step_at g.room r p).state) g.buffer
 
 -- the operation after steps that were handed these replies, lent what it was lent at its start
-abbrev pub op_after : Lending → List Reply → Op → Op
+abbrev pub op_after : Lending → List (Option ℕ) → Op → Op
 op_after g [] o = o
 op_after g (r ∷ rs) o = op_after g rs (step_of o g.bytes (length g.buffer) g.room r).op
 
 -- it shows the same now, and after all steps to come
 pub record Follows (g : Lending) (p : Point) (o : Op) : Type 0 where
-  pub always : (rs : List Reply) → Shows g (steps_at g.room rs p) (op_after g rs o)
+  pub always : (rs : List (Option ℕ)) → Shows g (steps_at g.room rs p) (op_after g rs o)
 
 -- ---- what a start promises: "an operation is a state by value, ended at its start if no access is due"
 
@@ -76,12 +75,12 @@ pub record Leaves (o : Op) (buffer log : List ℕ) (s : Stepped) (buffer₁ log�
   pub stored : buffer₁ ≡ buffer
 
 -- a step that is lent what the call was lent at its start
-pub record Steps (g : Lending) (p : Point) (log : List ℕ) (r : Reply) (s : Stepped) (log₁ : List ℕ) : Type 0 where
+pub record Steps (g : Lending) (p : Point) (log : List ℕ) (r : Option ℕ) (s : Stepped) (log₁ : List ℕ) : Type 0 where
   pub follows : Follows g (step_at g.room r p) s.op
   pub answer : answer_by s ≡ answer_at (step_at g.room r p)
   pub logged : log₁ ≡ logged_at g.room r p log
 
-pub record OnStep (g : Lending) (p : Point) (o : Op) (bytes buffer log : List ℕ) (r : Reply) (s : Stepped) (buffer₁ log₁ : List ℕ) : Type 0 where
+pub record OnStep (g : Lending) (p : Point) (o : Op) (bytes buffer log : List ℕ) (r : Option ℕ) (s : Stepped) (buffer₁ log₁ : List ℕ) : Type 0 where
   -- "An ended operation stepped again repeats its answer", whatever it is lent
   pub repeats : is_going p.answer ≡ false → Leaves o buffer log s buffer₁ log₁ × (answer_by s ≡ answer_at p)
   -- 25: "state and memory the same; the right length goes on"
@@ -92,7 +91,7 @@ pub record OnStep (g : Lending) (p : Point) (o : Op) (bytes buffer log : List �
   pub stored : bytes ≡ g.bytes → length log ≡ g.room → buffer ≡ overlaid (bytes_in p.state) g.buffer → buffer₁ ≡ overlaid (bytes_in (step_at g.room r p).state) g.buffer
 
 -- for the contract: of whatever call the operation follows, wherever it stands
-abbrev pub StepFollows : Op → List ℕ → List ℕ → List ℕ → Reply → Stepped → List ℕ → List ℕ → Type 0
+abbrev pub StepFollows : Op → List ℕ → List ℕ → List ℕ → Option ℕ → Stepped → List ℕ → List ℕ → Type 0
 StepFollows o bytes buffer log r s buffer₁ log₁ = (g : Lending) (p : Point) → Follows g p o → OnStep g p o bytes buffer log r s buffer₁ log₁
 
 -- ---- what a query promises
@@ -100,8 +99,8 @@ StepFollows o bytes buffer log r s buffer₁ log₁ = (g : Lending) (p : Point) 
 pub record OnDue (g : Lending) (p : Point) (bytes : List ℕ) (a : Asked) : Type 0 where
   pub due : bytes ≡ g.bytes → a ≡ asked_for (wanted p)
   -- nothing is due once it has ended, whatever it is lent
-  pub over : is_going p.answer ≡ false → a ≡ asked.Nothing
-  pub changed : is_going p.answer ≡ true → (length bytes == length g.bytes) ≡ false → a ≡ asked.LentLengthChanged
+  pub over : is_going p.answer ≡ false → a ≡ Ok None
+  pub changed : is_going p.answer ≡ true → (length bytes == length g.bytes) ≡ false → a ≡ length_changed
 
 abbrev pub DueFollows : Op → List ℕ → Asked → Type 0
 DueFollows o bytes a = (g : Lending) (p : Point) → Follows g p o → OnDue g p bytes a

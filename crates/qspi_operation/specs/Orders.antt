@@ -7,25 +7,24 @@ use Rattle.zynq7000.specs.declared.qspi.Access.{Access}
 use Rattle.qspi_script.specs.declared.Status.TheVariants.{Done}
 use Rattle.qspi_script.specs.Answer.{goes_on}
 use Rattle.qspi_operation.specs.declared.Op.{Op}
-use Rattle.qspi_operation.specs.declared.Reply.{Reply}
-use Rattle.qspi_operation.specs.declared.Asked.{Asked}
+use Rattle.std.specs.Prelude.{Option}
 use Rattle.qspi_operation.specs.declared.Stepped.{Stepped}
 use Rattle.qspi_operation.specs.Machine.{State, want, nothing, status_in, bytes_in, count_in, overlaid, reads_of, replies_of, Script, Result, halt, logging, runs, called, Makes, after}
 use Rattle.qspi_operation.specs.Points.{Lending, same_as, Point, answered_of}
 use Rattle.qspi_operation.specs.Follows.{answer_of, StepFollows, DueFollows, RunFollows}
-use Rattle.qspi_operation.specs.Step.{is_going}
+use Rattle.qspi_operation.specs.Step.{Asked, is_going}
 
 -- what happened so far to an operation, from its start on, and to the buffer and the log that it is lent. Of each step, run and query nothing is known but what its contract promises
 pub data History (g : Lending) (o₀ : Op) (buffer₀ log₀ : List ℕ) : Op → List ℕ → List ℕ → Type 0 where
   begun : History g o₀ buffer₀ log₀ o₀ buffer₀ log₀
   -- a step that is lent the call's own memory
-  stepped : {o : Op} {buffer log : List ℕ} → History g o₀ buffer₀ log₀ o buffer log → (r : Reply) {s : Stepped} {buffer₁ log₁ : List ℕ} → StepFollows o g.bytes buffer log r s buffer₁ log₁
+  stepped : {o : Op} {buffer log : List ℕ} → History g o₀ buffer₀ log₀ o buffer log → (r : Option ℕ) {s : Stepped} {buffer₁ log₁ : List ℕ} → StepFollows o g.bytes buffer log r s buffer₁ log₁
       → History g o₀ buffer₀ log₀ s.op buffer₁ log₁
   -- a run
   ran : {o : Op} {buffer log : List ℕ} → History g o₀ buffer₀ log₀ o buffer log → (replies : List ℕ) {s : Stepped} {buffer₁ log₁ : List ℕ} → RunFollows o g.bytes buffer log replies s buffer₁ log₁
       → History g o₀ buffer₀ log₀ s.op buffer₁ log₁
   -- a step or a run that is lent other memory: of another length, or whatever there is once the call has ended
-  beside : {o : Op} {buffer log : List ℕ} → History g o₀ buffer₀ log₀ o buffer log → (bytes buffer' log' : List ℕ) (r : Reply) {s : Stepped} {buffer₁ log₁ : List ℕ}
+  beside : {o : Op} {buffer log : List ℕ} → History g o₀ buffer₀ log₀ o buffer log → (bytes buffer' log' : List ℕ) (r : Option ℕ) {s : Stepped} {buffer₁ log₁ : List ℕ}
       → (is_going o.status ≡ true → same_as g (length bytes) (length buffer') (length log') ≡ false) → StepFollows o bytes buffer' log' r s buffer₁ log₁ → History g o₀ buffer₀ log₀ s.op buffer log
   ran_beside : {o : Op} {buffer log : List ℕ} → History g o₀ buffer₀ log₀ o buffer log → (bytes buffer' log' replies : List ℕ) {s : Stepped} {buffer₁ log₁ : List ℕ}
       → (is_going o.status ≡ true → same_as g (length bytes) (length buffer') (length log') ≡ false) → RunFollows o bytes buffer' log' replies s buffer₁ log₁ → History g o₀ buffer₀ log₀ s.op buffer log

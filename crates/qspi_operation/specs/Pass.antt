@@ -1,44 +1,34 @@
 -- One pass of a run's loop over the accesses of a transfer: what it leaves of the transfer, and the step that it stands for. No public
 -- contract speaks of it: it is for those of the private functions that `run` is made of.
-use Rattle.std.specs.Prelude.{◌≡◌, ℕ, ◌<◌, Bool, true, false, List, length}
-use Rattle.qspi_transfer.specs.declared.Moved.{Moved}
-use Rattle.qspi_transfer.specs.declared.Moved.TheVariants as moved
-use Rattle.qspi_transfer.specs.declared.Wire.{Wire}
-use Rattle.qspi_script.specs.declared.Job.{Job}
-use Rattle.qspi_script.specs.declared.Place.{Place}
-use Rattle.qspi_script.specs.declared.Status.TheVariants.{Going, LentLengthChanged, LogFull, RepliesEnded}
-use Rattle.qspi_operation.specs.declared.How.{How}
-use Rattle.qspi_operation.specs.declared.How.TheVariants.{On, Over, Changed, Full, Dry}
+use Rattle.std.specs.Prelude.{◌≡◌, ℕ, ◌<◌, Bool, true, false, List, length, Result, Ok, Err}
+use Rattle.qspi_script.specs.declared.Status.TheVariants as status
+use Rattle.qspi_script.specs.declared.Status.TheVariants.{Going}
+use Rattle.qspi_operation.specs.declared.Accessed.{Accessed}
+use Rattle.qspi_operation.specs.declared.NoAccess.{NoAccess}
+use Rattle.qspi_operation.specs.declared.NoAccess.TheVariants.{LentLengthChanged, LogFull, RepliesEnded}
 use Rattle.qspi_operation.specs.declared.Op.{Op}
 use Rattle.qspi_operation.specs.declared.Passed.{Passed}
 use Rattle.qspi_operation.specs.declared.Stepped.{Stepped}
-use Rattle.qspi_operation.specs.Step.{is_going, stopped, turned_on}
+use Rattle.qspi_operation.specs.Step.{Verdict, Changed, Full, Dry, Made, is_going, stopped, moved_by}
 use Rattle.qspi_operation.specs.Run.{run_at, fuel}
 
-abbrev pub is_on : How → Bool
-is_on On = true
-is_on Over = false
-is_on Changed = false
-is_on Full = false
-is_on Dry = false
+-- the verdict on an operation that is going on, as the code has it
+abbrev pub verdict_on : Result Accessed NoAccess → Verdict
+verdict_on (Ok a) = Made a.first a.value a.read
+verdict_on (Err LentLengthChanged) = Changed
+verdict_on (Err LogFull) = Full
+verdict_on (Err RepliesEnded) = Dry
 
--- after an access: the transfer goes on, or it is over
-abbrev pub passed_by : Moved → Wire → ℕ → ℕ → Passed
-passed_by (moved.On w') w used replies = record { wire = w'; used = used; replies = replies; how = On }
-passed_by moved.Over w used replies = record { wire = w; used = used; replies = replies; how = Over }
+-- a step that makes no access
+abbrev pub refused : NoAccess → Op → Stepped
+refused LentLengthChanged o = record { op = o; answer = status.LentLengthChanged }
+refused LogFull o = stopped o status.LogFull
+refused RepliesEnded o = stopped o status.RepliesEnded
 
-abbrev pub op_at : Job → Place → Passed → Op
-op_at job p x = record { job = job; place = p; wire = x.wire; used = x.used; replies = x.replies; status = Going }
-
-abbrev pub by_how : How → Op → Stepped
-by_how On o = record { op = o; answer = Going }
-by_how Over o = turned_on o o.used o.replies
-by_how Changed o = record { op = o; answer = LentLengthChanged }
-by_how Full o = stopped o LogFull
-by_how Dry o = stopped o RepliesEnded
-
-abbrev pub stands_for : Job → Place → Passed → Stepped
-stands_for job p x = by_how x.how (op_at job p x)
+-- the step that a pass stands for
+abbrev pub stands_for : Result Passed NoAccess → Op → Stepped
+stands_for (Ok x) o = moved_by x.wire o x.used x.replies
+stands_for (Err e) o = refused e o
 
 -- how many steps are left, 0 once it has ended
 abbrev pub left : Bool → ℕ → ℕ

@@ -9,8 +9,7 @@ use Rattle.zynq7000.specs.declared.qspi.Access.TheVariants as access
 use Rattle.qspi_script.specs.declared.Status.{Status}
 use Rattle.qspi_script.specs.declared.Status.TheVariants.{RepliesEnded, LogFull}
 use Rattle.qspi_script.specs.Answer.{Answered, said, said_by}
-use Rattle.qspi_operation.specs.declared.Reply.{Reply}
-use Rattle.qspi_operation.specs.declared.Reply.TheVariants.{Word, Nothing}
+use Rattle.std.specs.Prelude.{Option, Some, None}
 use Rattle.qspi_operation.specs.Machine.{Want, reads, writes, nothing, State, want, next, status_in, values_in, count_in, Result, runs, reads_of}
 use Rattle.qspi_operation.specs.Step.{is_going}
 
@@ -53,10 +52,10 @@ wanted p = unless_over (is_going p.answer) (want p.state)
 -- ---- a step
 
 -- where there is room: the access that is due is made, 23 where a read is due and no reply is handed over
-abbrev pub tried : Want → Reply → Point → Point
+abbrev pub tried : Want → Option ℕ → Point → Point
 tried nothing r p = p
-tried (reads o) (Word v) p = reached (next p.state v) (p.made ++ access.Read o v ∷ [])
-tried (reads o) Nothing p = halted p RepliesEnded
+tried (reads o) (Some v) p = reached (next p.state v) (p.made ++ access.Read o v ∷ [])
+tried (reads o) None p = halted p RepliesEnded
 tried (writes o v) r p = reached (next p.state v) (p.made ++ access.Write o v ∷ [])
 
 -- where there is none: 24
@@ -65,31 +64,31 @@ filled nothing p = p
 filled (reads o) p = halted p LogFull
 filled (writes o v) p = halted p LogFull
 
-abbrev pub room_for : Bool → Want → Reply → Point → Point
+abbrev pub room_for : Bool → Want → Option ℕ → Point → Point
 room_for true w r p = tried w r p
 room_for false w r p = filled w p
 
 -- "fewer than two words of log left"; 24 before 23
-abbrev pub step_at : ℕ → Reply → Point → Point
+abbrev pub step_at : ℕ → Option ℕ → Point → Point
 step_at room r p = room_for (nat_le (2 * length p.made + 2) room) (wanted p) r p
 
 -- the accesses that it makes: one or none
-abbrev pub access_if : Bool → Want → Reply → List Access
+abbrev pub access_if : Bool → Want → Option ℕ → List Access
 access_if false w r = []
 access_if true nothing r = []
-access_if true (reads o) (Word v) = access.Read o v ∷ []
-access_if true (reads o) Nothing = []
+access_if true (reads o) (Some v) = access.Read o v ∷ []
+access_if true (reads o) None = []
 access_if true (writes o v) r = access.Write o v ∷ []
 
-abbrev pub access_at : ℕ → Reply → Point → List Access
+abbrev pub access_at : ℕ → Option ℕ → Point → List Access
 access_at room r p = access_if (nat_le (2 * length p.made + 2) room) (wanted p) r
 
 -- the log after it: the words of that access after the used ones, all others kept
-abbrev pub logged_at : ℕ → Reply → Point → List ℕ → List ℕ
+abbrev pub logged_at : ℕ → Option ℕ → Point → List ℕ → List ℕ
 logged_at room r p log = sets log (2 * length p.made) (encode (access_at room r p))
 
 -- after steps that were handed these replies
-abbrev pub steps_at : ℕ → List Reply → Point → Point
+abbrev pub steps_at : ℕ → List (Option ℕ) → Point → Point
 steps_at room [] p = p
 steps_at room (r ∷ rs) p = steps_at room rs (step_at room r p)
 

@@ -1,13 +1,11 @@
 -- A step of an operation: what is due, what is answered, and the log and buffer after it. Document 01, "What changes shape" and "What the
 -- state can bring on".
-use Rattle.std.specs.Prelude.{ℕ, ◌+◌, ◌%◌, ◌^◌, Bool, true, false, cond, ◌&&◌, List, [], ◌∷◌, length, ◌==◌, nat_le, nat_lt, slice_index, slice_set}
+use Rattle.std.specs.Prelude.{ℕ, ◌+◌, ◌%◌, ◌^◌, Bool, true, false, ◌&&◌, List, [], ◌∷◌, length, ◌==◌, nat_le, nat_lt, slice_index, slice_set}
 use Rattle.zynq7000.specs.Number as paper
 use Rattle.qspi_transfer.specs.LowLevel.{sequence_due, chip_select_high, chip_select_low, started}
 use Rattle.qspi_transfer.specs.Wire.{fresh_wire, pick_wire, wire_next}
 use Rattle.qspi_transfer.specs.declared.Due.{Due}
 use Rattle.qspi_transfer.specs.declared.Due.TheVariants as due
-use Rattle.qspi_transfer.specs.declared.Moved.{Moved}
-use Rattle.qspi_transfer.specs.declared.Moved.TheVariants.{On, Over}
 use Rattle.qspi_transfer.specs.declared.Phase.{Phase}
 use Rattle.qspi_transfer.specs.declared.Phase.TheVariants.{DrainStatus, DrainData, OpenRead, OpenWrite, Enable, Send, StartRead, StartWrite, Wait, WaitAgain, Take, CloseRead, CloseWrite, Disable, Registers}
 use Rattle.qspi_transfer.specs.declared.Wire.{Wire}
@@ -15,8 +13,6 @@ use Rattle.qspi_script.specs.Stages.{frame_of, due_word}
 use Rattle.qspi_script.specs.Turns.{turn_of}
 use Rattle.qspi_script.specs.declared.Status.{Status}
 use Rattle.qspi_script.specs.declared.Status.TheVariants as status
-use Rattle.qspi_script.specs.declared.Number.{Number}
-use Rattle.qspi_script.specs.declared.Number.TheVariants.{Of, Without}
 use Rattle.qspi_script.specs.declared.Sequel.{Sequel}
 use Rattle.qspi_script.specs.declared.Sequel.TheVariants as sequel
 use Rattle.qspi_script.specs.declared.Job.{Job}
@@ -24,13 +20,9 @@ use Rattle.qspi_script.specs.declared.Place.{Place}
 use Rattle.qspi_script.specs.declared.Turned.{Turned}
 use Rattle.qspi_operation.specs.Store.{stored}
 use Rattle.qspi_operation.specs.declared.Op.{Op}
-use Rattle.qspi_operation.specs.declared.Reply.{Reply}
-use Rattle.qspi_operation.specs.declared.Reply.TheVariants.{Word, Nothing}
-use Rattle.qspi_operation.specs.declared.Asked.{Asked}
-use Rattle.qspi_operation.specs.declared.Asked.TheVariants as asked
+use Rattle.std.specs.Prelude.{Option, Some, None, Result, Ok, Err}
+use Rattle.qspi_operation.specs.declared.LentLengthChanged.{LentLengthChanged}
 use Rattle.qspi_operation.specs.declared.Stepped.{Stepped}
-use Rattle.qspi_operation.specs.declared.Verdict.{Verdict}
-use Rattle.qspi_operation.specs.declared.Verdict.TheVariants.{Ended, Changed, Full, Dry, Made}
 
 abbrev pub is_going : Status → Bool
 is_going status.Going = true
@@ -78,9 +70,15 @@ access_at Registers job p w bytes = register_access job w
 abbrev pub access_of : Job → Place → Wire → List ℕ → Due
 access_of job p w bytes = access_at w.phase job p w bytes
 
+-- what a query answers: the access that is due, or none, or that the data lent has another length
+abbrev pub Asked : Type 0
+Asked = Result (Option Due) LentLengthChanged
+
+abbrev pub length_changed : Asked
+length_changed = Err (record {})
+
 abbrev pub shown : Due → Asked
-shown (due.Read o) = asked.Read o
-shown (due.Write o v) = asked.Write o v
+shown x = Ok (Some x)
 
 abbrev pub pick_asked : Bool → Asked → Asked → Asked
 pick_asked true a b = a
@@ -90,26 +88,34 @@ pick_asked false a b = b
 abbrev pub due_of : Op → List ℕ → Asked
 due_of o bytes =
     pick_asked (is_going o.status)
-    (pick_asked (length bytes == o.job.lent.«data») (shown (access_of o.job o.place o.wire bytes)) asked.LentLengthChanged)
-    asked.Nothing
+    (pick_asked (length bytes == o.job.lent.«data») (shown (access_of o.job o.place o.wire bytes)) length_changed)
+    (Ok None)
 
 -- its number, where it has one, and values: of an access what its log words will be, as far as they are known beforehand; of an operation that has ended, nothing
 pub record Query : Type 0 where
-  pub number : Number
+  pub number : Option ℕ
   pub values : List ℕ
 
 abbrev pub asked_answer : Asked → Query
-asked_answer (asked.Read o) = record { number = Without; values = (0x100 + o) ∷ [] }
-asked_answer (asked.Write o v) = record { number = Without; values = o ∷ v ∷ [] }
-asked_answer asked.Nothing = record { number = Without; values = [] }
-asked_answer asked.LentLengthChanged = record { number = Of (paper.number paper.LentLengthChanged); values = [] }
+asked_answer (Ok (Some (due.Read o))) = record { number = None; values = (0x100 + o) ∷ [] }
+asked_answer (Ok (Some (due.Write o v))) = record { number = None; values = o ∷ v ∷ [] }
+asked_answer (Ok None) = record { number = None; values = [] }
+asked_answer (Err e) = record { number = Some (paper.number paper.LentLengthChanged); values = [] }
 
 -- ---- what a step does
 
+-- nothing, or one access, as its two log words and whether it used a reply
+pub data Verdict : Type 0 where
+  Ended : Verdict
+  Changed : Verdict
+  Full : Verdict
+  Dry : Verdict
+  Made : ℕ → ℕ → Bool → Verdict
+
 -- "An access is two 32-bit words: offset (plus 100 hex for a read), then value"; only a read uses a reply
-abbrev pub answered : Due → Reply → Verdict
-answered (due.Read o) (Word v) = Made (0x100 + o) v true
-answered (due.Read o) Nothing = Dry
+abbrev pub answered : Due → Option ℕ → Verdict
+answered (due.Read o) (Some v) = Made (0x100 + o) v true
+answered (due.Read o) None = Dry
 answered (due.Write o v) r = Made o v false
 
 abbrev pub choose : Bool → Verdict → Verdict → Verdict
@@ -120,13 +126,13 @@ abbrev pub same_lengths : Job → ℕ → ℕ → ℕ → Bool
 same_lengths job data₁ buffer log = data₁ == job.lent.«data» && (buffer == job.lent.buffer && log == job.lent.log)
 
 -- another lent length: 25; fewer than two words of log left: 24; a read and no reply: 23
-abbrev pub going : Op → List ℕ → ℕ → ℕ → Reply → Verdict
+abbrev pub going : Op → List ℕ → ℕ → ℕ → Option ℕ → Verdict
 going o bytes buffer room r =
     choose (same_lengths o.job (length bytes) buffer room)
     (choose (nat_le (o.used + 2) room) (answered (access_of o.job o.place o.wire bytes) r) Full)
     Changed
 
-abbrev pub verdict_of : Op → List ℕ → ℕ → ℕ → Reply → Verdict
+abbrev pub verdict_of : Op → List ℕ → ℕ → ℕ → Option ℕ → Verdict
 verdict_of o bytes buffer room r = choose (is_going o.status) (going o bytes buffer room r) Ended
 
 -- ---- the operation after it
@@ -160,9 +166,9 @@ turned_to o t used replies = record {
 abbrev pub turned_on : Op → ℕ → ℕ → Stepped
 turned_on o used replies = turned_to o (turn_of o.job o.place o.wire.last) used replies
 
-abbrev pub moved_by : Moved → Op → ℕ → ℕ → Stepped
-moved_by (On w) o used replies = went_on o w used replies
-moved_by Over o used replies = turned_on o used replies
+abbrev pub moved_by : Option Wire → Op → ℕ → ℕ → Stepped
+moved_by (Some w) o used replies = went_on o w used replies
+moved_by None o used replies = turned_on o used replies
 
 -- after an access of value v, with the new used counts
 abbrev pub moved : Op → ℕ → ℕ → ℕ → Stepped
@@ -180,7 +186,7 @@ act Dry o = stopped o status.RepliesEnded
 act (Made first v read) o = moved o (o.used + 2) (counted read o.replies) v
 
 -- the state and the answer after a step
-abbrev pub step_of : Op → List ℕ → ℕ → ℕ → Reply → Stepped
+abbrev pub step_of : Op → List ℕ → ℕ → ℕ → Option ℕ → Stepped
 step_of o bytes buffer room r = act (verdict_of o bytes buffer room r) o
 
 -- ---- the memory after it
@@ -196,7 +202,7 @@ noted Dry at log = log
 noted (Made first v read) at log = written log at first v
 
 -- the log after a step
-abbrev pub log_of : Op → List ℕ → ℕ → List ℕ → Reply → List ℕ
+abbrev pub log_of : Op → List ℕ → ℕ → List ℕ → Option ℕ → List ℕ
 log_of o bytes buffer log r = noted (verdict_of o bytes buffer (length log) r) o.used log
 
 abbrev pub taken : Verdict → Op → List ℕ → List ℕ
@@ -207,15 +213,15 @@ taken Dry o buffer = buffer
 taken (Made first v read) o buffer = stored o.job o.place o.wire v buffer
 
 -- the read buffer after a step
-abbrev pub buffer_of : Op → List ℕ → List ℕ → ℕ → Reply → List ℕ
+abbrev pub buffer_of : Op → List ℕ → List ℕ → ℕ → Option ℕ → List ℕ
 buffer_of o bytes buffer room r = taken (verdict_of o bytes (length buffer) room r) o buffer
 
-abbrev pub pick_reply : Bool → Reply → Reply → Reply
+abbrev pub pick_reply : Bool → Option ℕ → Option ℕ → Option ℕ
 pick_reply true a b = a
 pick_reply false a b = b
 
-abbrev pub reply_of : List ℕ → ℕ → Reply
-reply_of replies at = pick_reply (nat_lt at (length replies)) (Word (slice_index replies at)) Nothing
+abbrev pub reply_of : List ℕ → ℕ → Option ℕ
+reply_of replies at = pick_reply (nat_lt at (length replies)) (Some (slice_index replies at)) None
 
 -- ---- what the answer counts
 

@@ -3,17 +3,18 @@
 #![tactic(auto)]
 
 ghost use Rattle.std.specs.Prelude.{◌≡◌, ◌+◌, ◌≤◌, length, nat_le};
+ghost use Rattle.zynq7000.specs.Number as paper;
 ghost use Rattle.qspi_transfer.specs.Wire.{fresh_wire, pick_wire, wire_next};
 ghost use Rattle.qspi_transfer.specs.declared.Phase.TheVariants.{DrainStatus};
 ghost use Rattle.qspi_script.specs.Stages.{frame_of};
 ghost use Rattle.qspi_script.specs.declared.Status.TheVariants.{Going};
-ghost use Rattle.qspi_operation.specs.Step.{is_going, register_access, send_access, turned_on, access_of, shown, due_of, asked_answer, answered, same_lengths, going, stopped, counted, written, reply_of, step_of, log_of, buffer_of, counted_of, erases_list};
+ghost use Rattle.qspi_operation.specs.Step.{is_going, register_access, send_access, turned_on, moved_by, access_of, due_of, asked_answer, answered, same_lengths, going, stopped, counted, written, reply_of, step_of, log_of, buffer_of, counted_of, erases_list};
 ghost use Rattle.qspi_operation.specs.Follows.{StepFollows, DueFollows, RunFollows};
-ghost use Rattle.qspi_operation.specs.Pass.{is_on, passed_by, stands_for, Onward};
+ghost use Rattle.qspi_operation.specs.Pass.{verdict_on, refused, stands_for, Onward};
 ghost use Rattle.qspi_operation.specs.Run.{run_of, Ran};
 
-use qspi_script::{Job, Number, Place, Sequel, Status};
-use qspi_transfer::{Due, Frame, Moved, Phase, Wire, low_level};
+use qspi_script::{Job, Place, Sequel, Status, Turned};
+use qspi_transfer::{Due, Frame, Phase, Wire, low_level};
 use zynq7000::qspi::Config;
 use zynq7000::{bits, qspi};
 
@@ -30,33 +31,26 @@ pub struct Op {
     pub status: Status,
 }
 
-// A step is handed one reply or none.
+// The data lent now has another length than the call was lent at its start: the access due is not known.
 #[derive(Clone, Copy)]
-pub enum Reply {
-    Word(u32),
-    Nothing,
-}
+pub struct LentLengthChanged;
 
-// The access due, asked for without effect; nothing where the operation has ended.
-#[derive(Clone, Copy)]
-pub enum Asked {
-    Read(u8),
-    Write(u8, u32),
-    Nothing,
-    LentLengthChanged,
-}
-
-impl Asked {
-    // Document 01's number: 25, or none where nothing is refused.
-    pub fn number(self) -> Number
-        ensures number { result ≡ (asked_answer self).number }
+impl LentLengthChanged {
+    // Document 01's number.
+    pub fn number(self) -> u32
+        ensures number { result ≡ paper.number paper.LentLengthChanged }
     {
-        match self {
-            Asked::Read(_) => Number::Without,
-            Asked::Write(_, _) => Number::Without,
-            Asked::Nothing => Number::Without,
-            Asked::LentLengthChanged => Number::Of(25),
-        }
+        25
+    }
+}
+
+// The number of what `due` answers, where it is refused.
+pub fn refusal_number(asked: Result<Option<Due>, LentLengthChanged>) -> Option<u32>
+    ensures number { result ≡ (asked_answer asked).number }
+{
+    match asked {
+        Ok(_) => None,
+        Err(changed) => Some(changed.number()),
     }
 }
 
@@ -67,219 +61,217 @@ pub struct Stepped {
     pub answer: Status,
 }
 
-// What a step does: nothing, or one access, as its two log words and whether it used a reply.
+// One access, as its two log words, and whether it used a reply.
 #[derive(Clone, Copy)]
-pub enum Verdict {
-    Ended,
-    Changed,
-    Full,
-    Dry,
-    Made(u32, u32, bool),
+struct Accessed {
+    first: u32,
+    value: u32,
+    read: bool,
 }
 
-// How a pass of a run's loop ended: the transfer goes on, it is over, or no access was made.
+// Why a step of an operation that is going on makes no access.
 #[derive(Clone, Copy)]
-enum How {
-    On,
-    Over,
-    Changed,
-    Full,
-    Dry,
+enum NoAccess {
+    LentLengthChanged,
+    LogFull,
+    RepliesEnded,
 }
 
-// What a pass leaves of the transfer at hand, and the used counts.
+// What an access leaves of the transfer at hand, nothing if it was its last one, and the used counts.
 #[derive(Clone, Copy)]
 struct Passed {
-    wire: Wire,
+    wire: Option<Wire>,
     used: usize,
     replies: usize,
-    how: How,
-}
-
-fn is_on(how: How) -> bool
-    ensures on { result ≡ is_on how }
-{
-    match how {
-        How::On => true,
-        How::Over => false,
-        How::Changed => false,
-        How::Full => false,
-        How::Dry => false,
-    }
 }
 
 pub fn is_going(status: Status) -> bool
     ensures going { result ≡ is_going status }
 {
-    if let Status::Going = status {
-        true
-    } else {
-        false
+    matches!(status, Status::Going)
+}
+
+impl Op {
+    // The access of a register call.
+    fn register_access(&self) -> Due
+        ensures due { result ≡ register_access self.now.job self.now.wire }
+    {
+        let call = self.job.low_level;
+        low_level::due(call.sequence, self.wire.sent, self.wire.config, call.word)
+    }
+
+    // The word that a transfer sends next.
+    fn send(&self, data: &[u8]) -> Due
+        ensures due { result ≡ send_access self.now.job self.now.place self.now.wire «data».now }
+    {
+        let word = self.job.due_word(self.place, self.wire.sent, data);
+        Due::Write(self.job.frame(self.place).port, word)
+    }
+
+    // The access of an operation that is going on.
+    fn access(&self, data: &[u8]) -> Due
+        ensures due { result ≡ access_of self.now.job self.now.place self.now.wire «data».now }
+    {
+        let config = self.wire.config;
+        match self.wire.phase {
+            Phase::DrainStatus | Phase::Wait | Phase::WaitAgain => {
+                Due::Read(qspi::INTERRUPT_STATUS)
+            }
+            Phase::DrainData | Phase::Take => Due::Read(qspi::RX_DATA),
+            Phase::OpenRead | Phase::StartRead | Phase::CloseRead => Due::Read(qspi::CONFIG),
+            Phase::OpenWrite => Due::Write(
+                qspi::CONFIG,
+                bits::clear(config, Config::PERIPHERAL_CHIP_SELECT),
+            ),
+            Phase::StartWrite => Due::Write(
+                qspi::CONFIG,
+                bits::put(config, Config::MANUAL_START_COMMAND),
+            ),
+            Phase::CloseWrite => Due::Write(
+                qspi::CONFIG,
+                bits::put(config, Config::PERIPHERAL_CHIP_SELECT),
+            ),
+            Phase::Enable => Due::Write(qspi::SPI_ENABLE, 1),
+            Phase::Disable => Due::Write(qspi::SPI_ENABLE, 0),
+            Phase::Send => self.send(data),
+            Phase::Registers => self.register_access(),
+        }
+    }
+
+    // Whether the memory has the lengths that were lent at the start.
+    fn was_lent(&self, data: usize, buffer: usize, log: usize) -> bool
+        ensures same { result ≡ same_lengths self.now.job «data» buffer log }
+    {
+        let lent = self.job.lent;
+        data == lent.data && buffer == lent.buffer && log == lent.log
+    }
+
+    // The access that a step makes of an operation that is going on: 25, then 24, then 23.
+    fn judged(
+        &self,
+        data: &[u8],
+        buffer: usize,
+        room: usize,
+        replies: &[u32],
+        at: usize,
+    ) -> Result<Accessed, NoAccess>
+        ensures verdict { verdict_on result ≡ going self.now «data».now buffer room (reply_of replies.now at) }
+    {
+        if !self.was_lent(data.len(), buffer, room) {
+            return Err(NoAccess::LentLengthChanged);
+        }
+        if !has_room(self.used, room) {
+            return Err(NoAccess::LogFull);
+        }
+        answer_by(self.access(data), replies, at)
+    }
+
+    // Ended without an access.
+    fn stopped(self, status: Status) -> Stepped
+        ensures stepped { result ≡ stopped self status }
+    {
+        let op = Op { status, ..self };
+        Stepped { op, answer: status }
+    }
+
+    // No access was made: 25 ends nothing.
+    fn refused(self, why: NoAccess) -> Stepped
+        ensures stepped { result ≡ refused why self }
+    {
+        match why {
+            NoAccess::LentLengthChanged => Stepped {
+                op: self,
+                answer: Status::LentLengthChanged,
+            },
+            NoAccess::LogFull => self.stopped(Status::LogFull),
+            NoAccess::RepliesEnded => self.stopped(Status::RepliesEnded),
+        }
+    }
+
+    // After the last access of a transfer.
+    fn turned(self, used: usize, replies: usize) -> Stepped
+        ensures stepped { result ≡ turned_on self used replies }
+    {
+        let Turned { place, status } = self.job.turn(self.place, self.wire.last);
+        let op = Op {
+            place,
+            wire: wire_after(status, self.wire),
+            used,
+            replies,
+            status,
+            ..self
+        };
+        Stepped { op, answer: status }
+    }
+
+    // After an access.
+    fn moved(self, passed: Passed) -> Stepped
+        ensures stepped { result ≡ moved_by passed.wire self passed.used passed.replies }
+    {
+        let Passed {
+            wire,
+            used,
+            replies,
+        } = passed;
+        match wire {
+            Some(wire) => Stepped {
+                op: Op {
+                    wire,
+                    used,
+                    replies,
+                    status: Status::Going,
+                    ..self
+                },
+                answer: Status::Going,
+            },
+            None => self.turned(used, replies),
+        }
     }
 }
 
-// The access of a register call.
-fn register_access(job: Job, wire: Wire) -> Due
-    ensures due { result ≡ register_access job wire }
-{
-    let call = job.low_level;
-    let sequence = call.sequence;
-    low_level::due(sequence, wire.sent, wire.config, call.word)
-}
-
-// The word that a transfer sends next.
-fn send(job: Job, place: Place, wire: Wire, data: &[u8]) -> Due
-    ensures due { result ≡ send_access job place wire «data».now }
-{
-    let frame = qspi_script::frame(job, place);
-    Due::Write(
-        frame.port,
-        qspi_script::due_word(job, place, wire.sent, data),
-    )
-}
-
-// The access of an operation that is going on.
-fn access(job: Job, place: Place, wire: Wire, data: &[u8]) -> Due
-    ensures due { result ≡ access_of job place wire «data».now }
-{
-    let phase = wire.phase;
-    let config = wire.config;
-    match phase {
-        Phase::Send => send(job, place, wire, data),
-        Phase::DrainStatus => Due::Read(qspi::INTERRUPT_STATUS),
-        Phase::DrainData => Due::Read(qspi::RX_DATA),
-        Phase::OpenRead => Due::Read(qspi::CONFIG),
-        Phase::OpenWrite => Due::Write(
-            qspi::CONFIG,
-            bits::clear(config, Config::PERIPHERAL_CHIP_SELECT),
-        ),
-        Phase::Enable => Due::Write(qspi::SPI_ENABLE, 1),
-        Phase::StartRead => Due::Read(qspi::CONFIG),
-        Phase::StartWrite => Due::Write(
-            qspi::CONFIG,
-            bits::put(config, Config::MANUAL_START_COMMAND),
-        ),
-        Phase::Wait => Due::Read(qspi::INTERRUPT_STATUS),
-        Phase::WaitAgain => Due::Read(qspi::INTERRUPT_STATUS),
-        Phase::Take => Due::Read(qspi::RX_DATA),
-        Phase::CloseRead => Due::Read(qspi::CONFIG),
-        Phase::CloseWrite => Due::Write(
-            qspi::CONFIG,
-            bits::put(config, Config::PERIPHERAL_CHIP_SELECT),
-        ),
-        Phase::Disable => Due::Write(qspi::SPI_ENABLE, 0),
-        Phase::Registers => register_access(job, wire),
-    }
-}
-
-fn show(due: Due) -> Asked
-    ensures shown { result ≡ shown due }
-{
-    match due {
-        Due::Read(offset) => Asked::Read(offset),
-        Due::Write(offset, value) => Asked::Write(offset, value),
-    }
-}
-
-// The access that is due, by the data lent.
-pub fn due(op: Op, data: &[u8]) -> Asked
+// The access that is due, by the data lent, asked for without effect; none where the operation has ended.
+pub fn due(op: Op, data: &[u8]) -> Result<Option<Due>, LentLengthChanged>
     ensures due { result ≡ due_of op «data».now }
     ensures follows { DueFollows op «data».now result }
 {
-    let job = op.job;
-    let place = op.place;
-    let wire = op.wire;
-    let status = op.status;
-    let lent = job.lent;
-    if is_going(status) {
-        if data.len() == lent.data {
-            show(access(job, place, wire, data))
-        } else {
-            Asked::LentLengthChanged
-        }
-    } else {
-        Asked::Nothing
+    if !is_going(op.status) {
+        return Ok(None);
     }
+    if data.len() != op.job.lent.data {
+        return Err(LentLengthChanged);
+    }
+    Ok(Some(op.access(data)))
 }
 
 // A read uses the reply at a place; a write uses none.
-fn answer_by(due: Due, replies: &[u32], at: usize) -> Verdict
-    ensures verdict { result ≡ answered due (reply_of replies.now at) }
+fn answer_by(due: Due, replies: &[u32], at: usize) -> Result<Accessed, NoAccess>
+    ensures verdict { verdict_on result ≡ answered due (reply_of replies.now at) }
 {
     match due {
         Due::Read(offset) => {
             if at < replies.len() {
-                Verdict::Made(0x100 + offset as u32, replies[at], true)
+                Ok(Accessed {
+                    first: 0x100 + offset as u32,
+                    value: replies[at],
+                    read: true,
+                })
             } else {
-                Verdict::Dry
+                Err(NoAccess::RepliesEnded)
             }
         }
-        Due::Write(offset, value) => Verdict::Made(offset as u32, value, false),
+        Due::Write(offset, value) => Ok(Accessed {
+            first: offset as u32,
+            value,
+            read: false,
+        }),
     }
-}
-
-// Whether the memory has the lengths that were lent at the start.
-fn same_lengths(job: Job, data: usize, buffer: usize, log: usize) -> bool
-    ensures same { result ≡ same_lengths job «data» buffer log }
-{
-    let lent = job.lent;
-    if data == lent.data {
-        if buffer == lent.buffer {
-            if log == lent.log {
-                return true;
-            }
-        }
-    }
-    false
 }
 
 // Whether two words of log are left.
 fn has_room(used: usize, room: usize) -> bool
     ensures room { result ≡ nat_le (used + 2) room }
 {
-    if room < 2 {
-        return false;
-    }
-    if used <= room - 2 { true } else { false }
-}
-
-// 25, then 24, then 23.
-fn judged(op: Op, data: &[u8], buffer: usize, room: usize, replies: &[u32], at: usize) -> Verdict
-    ensures verdict { result ≡ going op «data».now buffer room (reply_of replies.now at) }
-{
-    let job = op.job;
-    let place = op.place;
-    let wire = op.wire;
-    if same_lengths(job, data.len(), buffer, room) {
-        if has_room(op.used, room) {
-            answer_by(access(job, place, wire, data), replies, at)
-        } else {
-            Verdict::Full
-        }
-    } else {
-        Verdict::Changed
-    }
-}
-
-// Ended without an access.
-fn stop(op: Op, status: Status) -> Stepped
-    ensures stepped { result ≡ stopped op status }
-{
-    let job = op.job;
-    let place = op.place;
-    let wire = op.wire;
-    let ended = Op {
-        job,
-        place,
-        wire,
-        used: op.used,
-        replies: op.replies,
-        status,
-    };
-    Stepped {
-        op: ended,
-        answer: status,
-    }
+    2 <= room && used <= room - 2
 }
 
 // The wire of the next transfer; after the last one the replies stay for the answer.
@@ -287,52 +279,9 @@ fn wire_after(status: Status, wire: Wire) -> Wire
     ensures wire { result ≡ pick_wire (is_going status) (fresh_wire DrainStatus) wire }
 {
     if is_going(status) {
-        qspi_transfer::begin(Phase::DrainStatus)
+        Wire::begin(Phase::DrainStatus)
     } else {
         wire
-    }
-}
-
-fn turned(op: Op, used: usize, replies: usize) -> Stepped
-    ensures stepped { result ≡ turned_on op used replies }
-{
-    let job = op.job;
-    let wire = op.wire;
-    let t = qspi_script::turn(job, op.place, wire.last);
-    let place = t.place;
-    let status = t.status;
-    let wire = wire_after(status, wire);
-    let next = Op {
-        job,
-        place,
-        wire,
-        used,
-        replies,
-        status,
-    };
-    Stepped {
-        op: next,
-        answer: status,
-    }
-}
-
-// After an access of a value, with the new used counts.
-fn advanced(wire: Wire, frame: Frame, used: usize, replies: usize, value: u32) -> Passed
-    ensures passed { result ≡ passed_by (wire_next wire frame value) wire used replies }
-{
-    match qspi_transfer::advance(wire, frame, value) {
-        Moved::On(next) => Passed {
-            wire: next,
-            used,
-            replies,
-            how: How::On,
-        },
-        Moved::Over => Passed {
-            wire,
-            used,
-            replies,
-            how: How::Over,
-        },
     }
 }
 
@@ -341,7 +290,7 @@ fn count(read: bool, replies: usize) -> usize
     ensures count { result ≡ counted read replies }
 {
     if read {
-        std::num::wrapping_add_usize(replies, 1)
+        replies.wrapping_add(1)
     } else {
         replies
     }
@@ -356,78 +305,29 @@ fn put(log: &mut [u32], at: usize, first: u32, value: u32)
     log[at + 1] = value;
 }
 
-// No access was made.
-fn unmoved(op: Op, how: How) -> Passed
-    ensures passed { result ≡ record { wire = op.wire; used = op.used; replies = op.replies; how = how } }
-{
-    let wire = op.wire;
-    Passed {
-        wire,
-        used: op.used,
-        replies: op.replies,
-        how,
-    }
-}
-
 // One access of an operation that is going on, or none, where the frame of its transfer is at hand.
 fn pass(
-    op: Op,
+    op: &Op,
     frame: Frame,
     data: &[u8],
     buffer: &mut [u8],
     log: &mut [u32],
     replies: &[u32],
     at: usize,
-) -> Passed
-    requires { (frame ≡ frame_of op.job op.place) × (op.status ≡ Going) }
-    ensures stands { stands_for op.job op.place result ≡ step_of op «data».now (length buffer.old) (length log.old) (reply_of replies.now at) }
-    ensures logged { log.new ≡ log_of op «data».now (length buffer.old) log.old (reply_of replies.now at) }
-    ensures stored { buffer.new ≡ buffer_of op «data».now buffer.old (length log.old) (reply_of replies.now at) }
+) -> Result<Passed, NoAccess>
+    requires { (frame ≡ frame_of op.now.job op.now.place) × (op.now.status ≡ Going) }
+    ensures stands { stands_for result op.now ≡ step_of op.now «data».now (length buffer.old) (length log.old) (reply_of replies.now at) }
+    ensures logged { log.new ≡ log_of op.now «data».now (length buffer.old) log.old (reply_of replies.now at) }
+    ensures stored { buffer.new ≡ buffer_of op.now «data».now buffer.old (length log.old) (reply_of replies.now at) }
 {
-    let used = op.used;
-    match judged(op, data, buffer.len(), log.len(), replies, at) {
-        // Never so: `judged` is asked only of an operation that is going on.
-        Verdict::Ended => unmoved(op, How::Changed),
-        Verdict::Changed => unmoved(op, How::Changed),
-        Verdict::Full => unmoved(op, How::Full),
-        Verdict::Dry => unmoved(op, How::Dry),
-        Verdict::Made(first, value, read) => {
-            put(log, used, first, value);
-            store::store(buffer, op.job, op.place, op.wire, value);
-            advanced(op.wire, frame, used + 2, count(read, op.replies), value)
-        }
-    }
-}
-
-// The step that a pass stands for.
-fn resolved(job: Job, place: Place, passed: Passed) -> Stepped
-    ensures stepped { result ≡ stands_for job place passed }
-{
-    let wire = passed.wire;
-    let how = passed.how;
-    let used = passed.used;
-    let replies = passed.replies;
-    let op = Op {
-        job,
-        place,
-        wire,
-        used,
-        replies,
-        status: Status::Going,
-    };
-    match how {
-        How::On => Stepped {
-            op,
-            answer: Status::Going,
-        },
-        How::Over => turned(op, used, replies),
-        How::Changed => Stepped {
-            op,
-            answer: Status::LentLengthChanged,
-        },
-        How::Full => stop(op, Status::LogFull),
-        How::Dry => stop(op, Status::RepliesEnded),
-    }
+    let made = op.judged(data, buffer.len(), log.len(), replies, at)?;
+    put(log, op.used, made.first, made.value);
+    store::store(buffer, op, made.value);
+    Ok(Passed {
+        wire: op.wire.advance(frame, made.value),
+        used: op.used + 2,
+        replies: count(made.read, op.replies),
+    })
 }
 
 // One step of an operation, where the reply is the one at a place of the replies.
@@ -444,29 +344,31 @@ pub fn step_at(
     ensures stored { buffer.new ≡ buffer_of op «data».now buffer.old (length log.old) (reply_of replies.now at) }
     ensures follows { StepFollows op «data».now buffer.old log.old (reply_of replies.now at) result buffer.new log.new }
 {
-    let status = op.status;
-    if is_going(status) {
-        let frame = qspi_script::frame(op.job, op.place);
-        let passed = pass(op, frame, data, buffer, log, replies, at);
-        resolved(op.job, op.place, passed)
-    } else {
-        Stepped { op, answer: status }
+    if !is_going(op.status) {
+        return Stepped {
+            op,
+            answer: op.status,
+        };
+    }
+    match pass(&op, op.job.frame(op.place), data, buffer, log, replies, at) {
+        Ok(passed) => op.moved(passed),
+        Err(why) => op.refused(why),
     }
 }
 
-// One step of an operation.
-pub fn step(op: Op, data: &[u8], buffer: &mut [u8], log: &mut [u32], reply: Reply) -> Stepped
+// One step of an operation, which is handed one reply or none.
+pub fn step(op: Op, data: &[u8], buffer: &mut [u8], log: &mut [u32], reply: Option<u32>) -> Stepped
     ensures state { result ≡ step_of op «data».now (length buffer.old) (length log.old) reply }
     ensures logged { log.new ≡ log_of op «data».now (length buffer.old) log.old reply }
     ensures stored { buffer.new ≡ buffer_of op «data».now buffer.old (length log.old) reply }
     ensures follows { StepFollows op «data».now buffer.old log.old reply result buffer.new log.new }
 {
     match reply {
-        Reply::Word(word) => {
+        Some(word) => {
             let one = [word];
             step_at(op, data, buffer, log, &one, 0)
         }
-        Reply::Nothing => {
+        None => {
             let none = [0u32; 0];
             step_at(op, data, buffer, log, &none, 0)
         }
@@ -479,45 +381,37 @@ fn transfer(op: Op, data: &[u8], buffer: &mut [u8], log: &mut [u32], replies: &[
     requires { op.status ≡ Going }
     ensures onward { Onward op «data».now replies.now buffer.old log.old result buffer.new log.new }
 {
-    let job = op.job;
-    let place = op.place;
-    let frame = qspi_script::frame(job, place);
+    let frame = op.job.frame(op.place);
     let mut wire = op.wire;
     let mut used = op.used;
     let mut taken = op.replies;
-    let mut how = How::On;
-    while is_on(how) {
+    loop {
         let o = Op {
-            job,
-            place,
             wire,
             used,
             replies: taken,
             status: Status::Going,
+            ..op
         };
-        let x = pass(o, frame, data, buffer, log, replies, taken);
-        let w = x.wire;
-        let phase = w.phase;
+        let passed = match pass(&o, frame, data, buffer, log, replies, taken) {
+            Ok(passed) => passed,
+            Err(why) => return o.refused(why),
+        };
+        let Some(next) = passed.wire else {
+            return o.turned(passed.used, passed.replies);
+        };
         wire = Wire {
-            phase,
-            config: w.config,
-            sent: w.sent,
-            read_index: w.read_index,
-            older: w.older,
-            old: w.old,
-            last: w.last,
+            phase: next.phase,
+            config: next.config,
+            sent: next.sent,
+            read_index: next.read_index,
+            older: next.older,
+            old: next.old,
+            last: next.last,
         };
-        used = x.used;
-        taken = x.replies;
-        how = x.how;
+        used = passed.used;
+        taken = passed.replies;
     }
-    let end = Passed {
-        wire,
-        used,
-        replies: taken,
-        how,
-    };
-    resolved(job, place, end)
 }
 
 // Steps an operation to its end, the replies in order.
@@ -540,14 +434,9 @@ pub fn run(op: Op, data: &[u8], buffer: &mut [u8], log: &mut [u32], replies: &[u
 pub fn counted(op: Op) -> usize
     ensures count { result ≡ counted_of op }
 {
-    let job = op.job;
-    let script = job.script;
-    let sequel = script.sequel;
-    let place = op.place;
-    match sequel {
+    match op.job.script.sequel {
         Sequel::Once => 0,
-        Sequel::Pages => place.done,
-        Sequel::Sectors => place.done,
+        Sequel::Pages | Sequel::Sectors => op.place.done,
     }
 }
 
@@ -555,12 +444,5 @@ pub fn counted(op: Op) -> usize
 pub fn erases_list(op: Op) -> bool
     ensures list { result ≡ erases_list op }
 {
-    let job = op.job;
-    let script = job.script;
-    let sequel = script.sequel;
-    match sequel {
-        Sequel::Once => false,
-        Sequel::Pages => false,
-        Sequel::Sectors => true,
-    }
+    matches!(op.job.script.sequel, Sequel::Sectors)
 }

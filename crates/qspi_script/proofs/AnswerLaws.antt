@@ -1,5 +1,5 @@
 -- What is said tells the status, and 0 is said only by a call that is done. Assumes nothing.
-use Rattle.std.proofs.Common.{◌≡◌, ℕ, cond, eqb, List, sym, refl, ap, ◌∙◌}
+use Rattle.std.proofs.Common.{◌≡◌, ℕ, cond, eqb, List, sym, refl, ap, ◌∙◌, arith}
 use Rattle.qspi_script.specs.Answer.{Said, said_by, number_in, or_else, values_in}
 use Rattle.qspi_script.specs.declared.Status.{Status}
 use Rattle.qspi_script.specs.declared.Status.TheVariants.{Going, Done, OutOfRange, Alignment, DataTooLarge, NotAligned, CrossesPageBoundary, AddressSpan, FieldTooWide, EraseErrorBitSet, ProgrammingErrorBitSet, RepliesEnded, LogFull, LentLengthChanged, RepeatedSector, ListTooLong}
@@ -24,22 +24,7 @@ status_from n =
     (cond (eqb n 33) ListTooLong Going))))))))))))))
 
 tells : (a : Status) (vs : List ℕ) (w : ℕ) → status_from w ≡ Going → status_from (or_else (number_in (said_by a vs)) w) ≡ a
-tells Going vs w e = e
-tells Done vs w e = refl
-tells OutOfRange vs w e = refl
-tells Alignment vs w e = refl
-tells DataTooLarge vs w e = refl
-tells NotAligned vs w e = refl
-tells CrossesPageBoundary vs w e = refl
-tells AddressSpan vs w e = refl
-tells FieldTooWide vs w e = refl
-tells EraseErrorBitSet vs w e = refl
-tells ProgrammingErrorBitSet vs w e = refl
-tells RepliesEnded vs w e = refl
-tells LogFull vs w e = refl
-tells LentLengthChanged vs w e = refl
-tells RepeatedSector vs w e = refl
-tells ListTooLong vs w e = refl
+tells a vs w e = grind (arith, e)
 
 -- THEOREM. Equal words, equal status; so a promise on what is said fixes the status.
 pub said_fixes : (a b : Status) (vs ws : List ℕ) → said_by a vs ≡ said_by b ws → a ≡ b
@@ -55,19 +40,4 @@ zero_is_done a vs w e h = sym (tells a vs w e) ∙ ap status_from h
 
 -- the number does not depend on the values
 pub number_alone : (a : Status) (vs ws : List ℕ) → number_in (said_by a vs) ≡ number_in (said_by a ws)
-number_alone Going vs ws = refl
-number_alone Done vs ws = refl
-number_alone OutOfRange vs ws = refl
-number_alone Alignment vs ws = refl
-number_alone DataTooLarge vs ws = refl
-number_alone NotAligned vs ws = refl
-number_alone CrossesPageBoundary vs ws = refl
-number_alone AddressSpan vs ws = refl
-number_alone FieldTooWide vs ws = refl
-number_alone EraseErrorBitSet vs ws = refl
-number_alone ProgrammingErrorBitSet vs ws = refl
-number_alone RepliesEnded vs ws = refl
-number_alone LogFull vs ws = refl
-number_alone LentLengthChanged vs ws = refl
-number_alone RepeatedSector vs ws = refl
-number_alone ListTooLong vs ws = refl
+number_alone a vs ws = grind arith

@@ -1,13 +1,11 @@
 -- What a call answers, as document 01 speaks of it: "If an answer is an enum, the promises use a definition that states this paper's number and values for each of its
 -- cases." A call that goes on has no number yet, so that 0 is said only by one that is done. 32 and 33 are document 02's (U1).
-use Rattle.std.specs.Prelude.{ℕ, List, [], ◌∷◌}
+use Rattle.std.specs.Prelude.{ℕ, List, [], ◌∷◌, Option, Some, None, unwrap_or}
 use Rattle.zynq7000.specs.Number as paper
 use Rattle.zedboard_bsp.specs.Words.{top_byte}
 use Rattle.zedboard_bsp.specs.DeviceId.{reply_bytes, long_reply_bytes}
 use Rattle.qspi_script.specs.declared.Status.{Status}
 use Rattle.qspi_script.specs.declared.Status.TheVariants as status
-use Rattle.qspi_script.specs.declared.Number.{Number}
-use Rattle.qspi_script.specs.declared.Number.TheVariants.{Of, Without}
 use Rattle.qspi_script.specs.declared.Gives.{Gives}
 use Rattle.qspi_script.specs.declared.Gives.TheVariants as gives
 
@@ -56,14 +54,13 @@ pub record Answered : Type 0 where
 -- ---- its parts
 
 -- the number
-abbrev pub number_in : Said → Number
-number_in goes_on = Without
-number_in (said a) = Of a.number
+abbrev pub number_in : Said → Option ℕ
+number_in goes_on = None
+number_in (said a) = Some a.number
 
 -- or another one where it has none
-abbrev pub or_else : Number → ℕ → ℕ
-or_else (Of n) without = n
-or_else Without without = without
+abbrev pub or_else : Option ℕ → ℕ → ℕ
+or_else number without = unwrap_or number without
 
 -- that of a status; one that goes on has none, and is given one that no answer has
 abbrev pub number_of : Status → ℕ

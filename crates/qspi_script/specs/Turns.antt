@@ -1,6 +1,6 @@
 -- Which transfer comes after which, by counters: document 01, "One transfer, access by access" and "What changes shape", and the Rust's
 -- functions.
-use Rattle.std.specs.Prelude.{ℕ, ◌+◌, ◌-◌, ◌%◌, ◌^◌, min, Bool, true, false, cond, ◌==◌, nat_lt}
+use Rattle.std.specs.Prelude.{ℕ, ◌+◌, ◌-◌, ◌%◌, ◌^◌, min, Bool, true, false, cond, ◌==◌, nat_lt, is_some, unwrap_or}
 use Rattle.zynq7000.specs.Bits.{is_set}
 use Rattle.zedboard_bsp.specs.Limits.{largest_chunk, recommended_program_page_size, page_size}
 use Rattle.zedboard_bsp.specs.Words.{top_byte}
@@ -113,8 +113,8 @@ polled job p status = pick (failed job.script status) (begin p Clear) (pick (is_
 -- `new` has read both registers
 abbrev pub configured : Wanted → Place → ℕ → Turned
 configured w p sr =
-    pick (update_needed w.quad w.set_latency w.latency w.clear p.cr sr)
-    (begin (with_registers p (configured_sr w.clear sr) (configured_cr w.quad w.set_latency w.latency p.cr)) Enable)
+    pick (update_needed w.quad (is_some w.latency) (unwrap_or w.latency 0) w.clear p.cr sr)
+    (begin (with_registers p (configured_sr w.clear sr) (configured_cr w.quad (is_some w.latency) (unwrap_or w.latency 0) p.cr)) Enable)
     (finish p Done)
 
 abbrev pub protecting : Wanted → Place → ℕ → Turned

@@ -2,6 +2,8 @@
 // standard input, the logs and what the flash then holds on standard output (crates/sim_console).
 #![tactic(auto)]
 
-fn main() {
-    sim_console::simulate_input();
+use std::io;
+
+fn main(rt: HostRuntime) -> io::Result<()> {
+    sim_console::simulate_input(&rt)
 }

@@ -13,7 +13,7 @@ use zynq7000::qspi::InterruptStatus;
 pub mod low_level;
 
 // The access that is due: a read of a register, or a write of a value to it.
-#[derive(Clone, Copy)]
+#[derive(Clone, Copy, PartialEq, Eq)]
 pub enum Due {
     Read(u8),
     Write(u8, u32),
@@ -21,7 +21,7 @@ pub enum Due {
 
 // What is due: a register access of the transfer, by its place in it. `Registers` is an access of a
 // call that writes registers and sends nothing.
-#[derive(Clone, Copy)]
+#[derive(Clone, Copy, PartialEq, Eq)]
 pub enum Phase {
     DrainStatus,
     DrainData,
@@ -64,13 +64,6 @@ pub struct Wire {
     pub last: u32,
 }
 
-// A transfer goes on, or this was its last access.
-#[derive(Clone, Copy)]
-pub enum Moved {
-    On(Wire),
-    Over,
-}
-
 // One of two phases.
 fn either(yes: bool, a: Phase, b: Phase) -> Phase
     ensures choice { result ≡ choose yes a b }
@@ -96,136 +89,115 @@ fn below(count: u32, end: u32, more: Phase, enough: Phase) -> Phase
     if count < end { more } else { enough }
 }
 
-// The same transfer at another phase.
-fn at(w: Wire, phase: Phase) -> Wire
-    ensures wire { result ≡ at_phase w phase }
-{
-    Wire {
-        phase,
-        config: w.config,
-        sent: w.sent,
-        read_index: w.read_index,
-        older: w.older,
-        old: w.old,
-        last: w.last,
-    }
-}
-
-// A config word was read.
-fn read_config(w: Wire, phase: Phase, config: u32) -> Wire
-    ensures wire { result ≡ config_read w phase config }
-{
-    Wire {
-        phase,
-        config,
-        sent: w.sent,
-        read_index: w.read_index,
-        older: w.older,
-        old: w.old,
-        last: w.last,
-    }
-}
-
-// A word was written: the next one, or the start.
-fn sent(w: Wire, f: Frame) -> Wire
-    ensures wire { result ≡ word_sent w f }
-{
-    if w.sent < f.words {
+impl Wire {
+    // A transfer, or a call that sends nothing, before its first access.
+    pub fn begin(phase: Phase) -> Wire
+        ensures wire { result ≡ fresh_wire phase }
+    {
         Wire {
-            phase: Phase::Send,
-            config: w.config,
-            sent: w.sent + 1,
-            read_index: w.read_index,
-            older: w.older,
-            old: w.old,
-            last: w.last,
+            phase,
+            config: 0,
+            sent: 0,
+            read_index: 0,
+            older: 0,
+            old: 0,
+            last: 0,
         }
-    } else {
-        at(w, Phase::StartRead)
     }
-}
 
-// A reply was taken. Replies are counted in bytes, each adding 4 by a wrapping add as in the Rust.
-fn took(w: Wire, f: Frame, reply: u32) -> Wire
-    ensures wire { result ≡ reply_taken w f reply }
-{
-    let read_index = std::num::wrapping_add_u32(w.read_index, 4);
-    let phase = below(read_index, f.bytes, Phase::Wait, Phase::CloseRead);
-    Wire {
-        phase,
-        config: w.config,
-        sent: w.sent,
-        read_index,
-        older: w.old,
-        old: w.last,
-        last: reply,
+    // The transfer after an access, whose value is the word that was read or written; none if it was the
+    // last access.
+    pub fn advance(self, f: Frame, value: u32) -> Option<Wire>
+        ensures moved { result ≡ wire_next self f value }
+    {
+        let next = match self.phase {
+            Phase::DrainStatus => self.at(poll(value, Phase::DrainData, Phase::OpenRead)),
+            Phase::DrainData => self.at(Phase::DrainStatus),
+            Phase::OpenRead => self.with_config(Phase::OpenWrite, value),
+            Phase::OpenWrite => self.at(Phase::Enable),
+            Phase::Enable => self.at(Phase::Send),
+            Phase::Send => self.after_word(f),
+            Phase::StartRead => self.with_config(Phase::StartWrite, value),
+            Phase::StartWrite => {
+                let phase = below(self.read_index, f.bytes, Phase::Wait, Phase::CloseRead);
+                self.at(phase)
+            }
+            Phase::Wait => {
+                let ready = either(f.twice, Phase::WaitAgain, Phase::Take);
+                self.at(poll(value, ready, Phase::Wait))
+            }
+            Phase::WaitAgain => self.at(poll(value, Phase::Take, Phase::Wait)),
+            Phase::Take => self.after_reply(f, value),
+            Phase::CloseRead => self.with_config(Phase::CloseWrite, value),
+            Phase::CloseWrite => self.at(Phase::Disable),
+            Phase::Disable => return None,
+            Phase::Registers => return self.after_register(f, value),
+        };
+        Some(next)
     }
-}
 
-// An access of a call that sends nothing was made: the next one, or the end.
-fn registered(w: Wire, f: Frame, value: u32) -> Moved
-    ensures moved { result ≡ register_done w f value }
-{
-    if w.sent < f.words {
-        Moved::On(Wire {
-            phase: Phase::Registers,
-            config: value,
-            sent: w.sent + 1,
-            read_index: w.read_index,
-            older: w.older,
-            old: w.old,
-            last: w.last,
-        })
-    } else {
-        Moved::Over
+    // The same transfer at another phase.
+    fn at(self, phase: Phase) -> Wire
+        ensures wire { result ≡ at_phase self phase }
+    {
+        Wire { phase, ..self }
     }
-}
 
-// A transfer, or a call that sends nothing, before its first access.
-pub fn begin(phase: Phase) -> Wire
-    ensures wire { result ≡ fresh_wire phase }
-{
-    Wire {
-        phase,
-        config: 0,
-        sent: 0,
-        read_index: 0,
-        older: 0,
-        old: 0,
-        last: 0,
+    // A config word was read.
+    fn with_config(self, phase: Phase, config: u32) -> Wire
+        ensures wire { result ≡ config_read self phase config }
+    {
+        Wire {
+            phase,
+            config,
+            ..self
+        }
     }
-}
 
-// The transfer after an access, whose value is the word that was read or written.
-pub fn advance(w: Wire, f: Frame, value: u32) -> Moved
-    ensures moved { result ≡ wire_next w f value }
-{
-    let phase = w.phase;
-    match phase {
-        Phase::DrainStatus => Moved::On(at(w, poll(value, Phase::DrainData, Phase::OpenRead))),
-        Phase::DrainData => Moved::On(at(w, Phase::DrainStatus)),
-        Phase::OpenRead => Moved::On(read_config(w, Phase::OpenWrite, value)),
-        Phase::OpenWrite => Moved::On(at(w, Phase::Enable)),
-        Phase::Enable => Moved::On(at(w, Phase::Send)),
-        Phase::Send => Moved::On(sent(w, f)),
-        Phase::StartRead => Moved::On(read_config(w, Phase::StartWrite, value)),
-        Phase::StartWrite => Moved::On(at(
-            w,
-            below(w.read_index, f.bytes, Phase::Wait, Phase::CloseRead),
-        )),
-        Phase::Wait => Moved::On(at(
-            w,
-            poll(
-                value,
-                either(f.twice, Phase::WaitAgain, Phase::Take),
-                Phase::Wait,
-            ),
-        )),
-        Phase::WaitAgain => Moved::On(at(w, poll(value, Phase::Take, Phase::Wait))),
-        Phase::Take => Moved::On(took(w, f, value)),
-        Phase::CloseRead => Moved::On(read_config(w, Phase::CloseWrite, value)),
-        Phase::CloseWrite => Moved::On(at(w, Phase::Disable)),
-        Phase::Disable => Moved::Over,
-        Phase::Registers => registered(w, f, value),
+    // A word was written: the next one, or the start.
+    fn after_word(self, f: Frame) -> Wire
+        ensures wire { result ≡ word_sent self f }
+    {
+        if self.sent < f.words {
+            Wire {
+                phase: Phase::Send,
+                sent: self.sent + 1,
+                ..self
+            }
+        } else {
+            self.at(Phase::StartRead)
+        }
+    }
+
+    // A reply was taken. Replies are counted in bytes, each adding 4 by a wrapping add as in the Rust.
+    fn after_reply(self, f: Frame, reply: u32) -> Wire
+        ensures wire { result ≡ reply_taken self f reply }
+    {
+        let read_index = self.read_index.wrapping_add(4);
+        let phase = below(read_index, f.bytes, Phase::Wait, Phase::CloseRead);
+        Wire {
+            phase,
+            read_index,
+            older: self.old,
+            old: self.last,
+            last: reply,
+            ..self
+        }
+    }
+
+    // An access of a call that sends nothing was made: the next one, or the end.
+    fn after_register(self, f: Frame, value: u32) -> Option<Wire>
+        ensures moved { result ≡ register_done self f value }
+    {
+        if self.sent < f.words {
+            Some(Wire {
+                phase: Phase::Registers,
+                config: value,
+                sent: self.sent + 1,
+                ..self
+            })
+        } else {
+            None
+        }
     }
 }

@@ -1,123 +1,86 @@
 // Calls of the driver against the simulated controller and flash, as a row of requests on standard input
-// says (`request`): they are run (`row`) and printed (`report`), or the one line is that says what is wrong
+// says (`request`): they are run (`run`) and printed (`report`), or the one line is that says what is wrong
 // (`fault`).
 #![tactic(auto)]
 
-ghost use Rattle.std.specs.Prelude.{◌≡◌, length};
+use crate::fault::{Fault, Problem};
+use crate::request::{CallRow, Cut};
+use crate::run::Came;
+use sim_report::run::print_refused;
+use std::io;
+use std::io::Read;
 
-use crate::items::MOST_BYTES;
-use crate::lent::LONG_PART;
-use crate::report::Shows;
-use crate::words::least;
-use printing::STDIN_FILENO;
-use sim_report::NEVER;
-
-mod calls;
 mod ended;
 mod fault;
-mod items;
-mod lent;
-mod lines;
+mod item;
 mod numbers;
+mod part;
+mod reader;
 mod report;
 mod request;
-mod row;
+mod run;
+mod sections;
 mod sectors;
 mod words;
 
 const INPUT: usize = 32768;
 
-const WORDS: usize = 32768;
-
-pub fn simulate_input() {
-    let mut input = [0u8; INPUT];
-    let len = io::read_full(STDIN_FILENO, &mut input);
-    if len < INPUT {
-        simulate_text(&input[..len]);
+pub fn simulate_input<R: Input + Print + AllocGlobal>(rt: &R) -> io::Result<()> {
+    let mut input = Vec::new(rt.alloc());
+    rt.reader().take(INPUT as u64).read_to_end(&mut input)?;
+    if input.len() < INPUT {
+        simulate_text(rt, input.as_slice())
     } else {
-        too_long(last_line(&input));
+        let line = last_line(input.as_slice());
+        let fault = Fault::new(line, None, Problem::LongInput);
+        println!(rt; "{fault}")
     }
-}
-
-fn too_long(line: usize) {
-    let mut said = items::defaults();
-    items::stand_at(&mut said, line, items::UNKNOWN);
-    fault::print(fault::LONG_INPUT, &said);
 }
 
 // The number of the last line.
 fn last_line(input: &[u8]) -> usize {
-    let mut count: usize = 1;
-    let mut i = 0;
-    while i < input.len() {
-        if input[i] == b'\n' {
-            count = std::num::wrapping_add_usize(count, 1);
-        }
-        i += 1;
-    }
-    count
-}
-
-// An array of one byte. Its length is a parameter, since the prover counts out a literal of a known one,
-// and half a million is too many for it.
-fn filled<const N: usize>(byte: u8) -> [u8; N]
-    ensures { N ≡ length result }
-{
-    [byte; N]
+    1 + input.iter().filter(|byte| **byte == b'\n').count()
 }
 
 // Requests that are at hand as text.
-pub fn simulate_text(input: &[u8]) {
-    let mut said = items::defaults();
-    let mut data = [0u8; MOST_BYTES];
-    let mut array: [u8; LONG_PART] = filled(0xFF);
-    let wrong = request::read(input, &mut said, &mut data, &mut array);
-    if wrong == fault::NOTHING {
-        simulate(input, &said, &mut array);
-    } else {
-        fault::print(wrong, &said);
+pub fn simulate_text<R: Print + AllocGlobal>(rt: &R, input: &[u8]) -> io::Result<()> {
+    match reader::read(rt.alloc(), input) {
+        Ok(calls) => simulate(rt, &calls),
+        Err(fault) => println!(rt; "{fault}"),
     }
 }
 
-// What the array held before the row is kept beside it.
-fn simulate(input: &[u8], requests: &[usize], array: &mut [u8]) {
-    let mut before: [u8; LONG_PART] = filled(0);
-    let mut log = [0u32; WORDS];
-    let end = least(lent::size_of(requests), array.len());
-    words::copy(&array[0..end], &mut before);
-    lend(input, requests, &mut log, &before, &mut array[0..end]);
-}
-
-fn lend(input: &[u8], requests: &[usize], log: &mut [u32], before: &[u8], array: &mut [u8]) {
-    let cut = items::of(requests, items::CUT);
-    if cut == items::EVERY {
-        return cuts(input, requests, log, before, array);
-    }
-    let came = row::run(input, requests, cut, Shows::Calls, log, before, array);
-    report::left_out(came)
+fn simulate<R: Print + AllocGlobal>(rt: &R, calls: &CallRow) -> io::Result<()> {
+    let cut = match calls.cut {
+        Cut::Never => None,
+        Cut::After(accesses) => Some(accesses),
+        Cut::Every => return simulate_cuts(rt, calls),
+    };
+    let came = run::run(rt.alloc(), calls, cut, |call| call.print_whole(rt))?;
+    print_left_out(rt, came)
 }
 
 // Every cut point, from 0 to all accesses of the row.
-fn cuts(input: &[u8], requests: &[usize], log: &mut [u32], before: &[u8], array: &mut [u8]) {
-    let came = row::run(input, requests, NEVER, Shows::Nothing, log, before, array);
-    let all = report::made(NEVER, came);
-    cut_lines(all, input, requests, log, before, array);
-    report::refused(NEVER, came);
-    report::left_out(came)
+fn simulate_cuts<R: Print + AllocGlobal>(rt: &R, calls: &CallRow) -> io::Result<()> {
+    let came = run::run(rt.alloc(), calls, None, |_| Ok(()))?;
+    cut_lines(rt, calls, came.made)?;
+    if came.answer.is_none() {
+        print_refused(rt, came.made)?;
+    }
+    print_left_out(rt, came)
 }
 
-fn cut_lines(
-    all: usize,
-    input: &[u8],
-    requests: &[usize],
-    log: &mut [u32],
-    before: &[u8],
-    array: &mut [u8],
-) {
-    let mut k = 0;
-    while k < all {
-        row::run(input, requests, k, Shows::Line, log, before, array);
-        k += 1;
+fn cut_lines<R: Print + AllocGlobal>(rt: &R, calls: &CallRow, all: usize) -> io::Result<()> {
+    for cut in 0..=all {
+        run::run(rt.alloc(), calls, Some(cut), |call| call.print_cut(rt))?;
     }
-    row::run(input, requests, all, Shows::Line, log, before, array);
+    Ok(())
+}
+
+// Says that a call is not run, where one is not.
+fn print_left_out(rt: &impl Print, came: Came) -> io::Result<()> {
+    if came.left_out {
+        sim_report::run::print_left_out(rt, came.number, came.answer)?;
+    }
+    Ok(())
 }

@@ -1,91 +1,88 @@
-// A call of a row is handed to `sim_report`, with what the observer makes of its log.
-use crate::row::{Came, Task};
-use crate::{items, lent, request, row, sectors};
-use sim_report::{Case, Ended, Shown, Spot};
+// What is printed of a call of a row, with what the observer makes of its log.
+use crate::request::{CallRow, Request};
+use crate::run::{Came, Memory};
+use log_observer::Watch;
+use sim_report::flash::{Flash, Span};
+use sim_report::run::{Case, Ended, Finished, Lent, print_cut, print_whole};
+use std::io;
 
-// What is printed of a row: nothing, its calls, or the line of a cut.
+// A call that was run, and the memory that it was lent.
 #[derive(Clone, Copy)]
-pub enum Shows {
-    Nothing,
-    Calls,
-    Line,
+pub struct CallReport<'a> {
+    pub calls: &'a CallRow,
+    pub request: &'a Request,
+    pub cut: Option<usize>,
+    pub came: Came,
+    pub ended: Ended,
+    pub buffer: &'a [u8],
+    pub memory: &'a Memory,
 }
 
-// A call that stands alone has no number.
-fn number_in(requests: &[usize], number: usize) -> usize {
-    if lent::is_row(requests) { number } else { 0 }
-}
+impl CallReport<'_> {
+    pub fn print_whole(&self, rt: &impl Print) -> io::Result<()> {
+        let watch = self.watch();
+        let lent = Lent {
+            list: self.request.sectors.taken(),
+            log: self.memory.log.as_slice(),
+            buffer: self.buffer,
+        };
+        print_whole(
+            rt,
+            &self.case(),
+            &self.ended,
+            finished(watch),
+            lent,
+            self.flash(watch),
+        )
+    }
 
-// The accesses of all calls so far.
-pub fn made(cut: usize, came: Came) -> usize {
-    let row = came.row;
-    std::num::wrapping_sub_usize(cut, row.left)
-}
+    // Its part of the line of a cut.
+    pub fn print_cut(&self, rt: &impl Print) -> io::Result<()> {
+        let watch = self.watch();
+        print_cut(
+            rt,
+            &self.case(),
+            &self.ended,
+            finished(watch),
+            self.request.sectors.taken(),
+            self.flash(watch),
+        )
+    }
 
-fn case(said: &[usize], requests: &[usize], task: Task, came: Came) -> Case {
-    let made = made(task.cut, came);
-    let is_last = row::is_last(came.row, task.is_followed);
-    Case {
-        call: items::of(said, items::CALL),
-        address: request::address(said),
-        base: lent::base_of(requests),
-        cut: task.cut,
-        number: number_in(requests, came.number),
-        made,
-        is_last,
+    fn case(&self) -> Case {
+        // A call that stands alone has no number.
+        let is_row = 1 < self.calls.requests.len();
+        Case {
+            call: self.request.call,
+            address: self.request.address,
+            cut: self.cut,
+            number: is_row.then_some(self.came.number),
+            made: self.came.made,
+            is_last: self.came.is_last,
+        }
+    }
+
+    fn watch(&self) -> Watch {
+        log_observer::observe(self.memory.log.as_slice(), self.ended.used / 2)
+    }
+
+    fn flash(&self, watch: Watch) -> Flash<'_> {
+        let doubt = watch.doubt.map(|chunk| Span {
+            address: chunk.address,
+            length: chunk.length,
+        });
+        Flash {
+            base: self.calls.base,
+            before: self.calls.before.as_slice(),
+            after: self.memory.array.as_slice(),
+            doubt,
+        }
     }
 }
 
-// What the observer makes of the log.
-fn seen(log: &[u32], used: usize) -> Shown {
-    let watch = log_observer::observe(log, used / 2);
-    let chunk = watch.doubt;
-    let doubt = Spot {
-        there: chunk.there,
-        address: chunk.address,
-        length: chunk.length,
-    };
-    Shown {
-        finished: watch.finished as usize,
+fn finished(watch: Watch) -> Finished {
+    Finished {
+        chunks: watch.finished as usize,
         bytes: watch.bytes as usize,
-        doubt,
-    }
-}
-
-pub fn call(
-    said: &[usize],
-    requests: &[usize],
-    task: Task,
-    came: Came,
-    ended: Ended,
-    log: &[u32],
-    buffer: &[u8],
-    before: &[u8],
-    array: &[u8],
-) {
-    let shows = task.shows;
-    let case = case(said, requests, task, came);
-    let seen = seen(log, ended.used);
-    let list = sectors::entries(said);
-    let taken = sectors::front(&list, sectors::taken(said));
-    match shows {
-        Shows::Nothing => {}
-        Shows::Calls => sim_report::whole(case, ended, seen, taken, log, buffer, before, array),
-        Shows::Line => sim_report::cut_line(case, ended, seen, taken, before, array),
-    }
-}
-
-// Says that a call is not run, where one is not.
-pub fn left_out(came: Came) {
-    let answer = came.answer;
-    if came.left_out {
-        sim_report::left_out(came.number, answer, came.refused);
-    }
-}
-
-// Says where the device could not go on.
-pub fn refused(cut: usize, came: Came) {
-    if came.refused {
-        sim_report::refused(made(cut, came));
     }
 }

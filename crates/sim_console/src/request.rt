@@ -2,7 +2,7 @@
 // and those that begin with # are skipped. Each item stands there once at most, but for `data`, `sectors` and
 // `holds`. A line has up to 1024 bytes, all of them up to 32767.
 //
-//   call NAME        one of `calls`
+//   call NAME        one of `sim_report::call`
 //   address HEX      up to eight digits
 //   data HEX ..      pairs of digits; further lines are appended; up to 4096 bytes, or none
 //   sectors HEX ..   addresses, for `erase_sectors`; further lines are appended; up to 300, or none
@@ -18,154 +18,121 @@
 //
 // `busy`, `gap`, `cut` and `holds` are said of the whole row, with any of its calls, and a cut point counts the
 // accesses of all; the other items are each call's own.
-//
-// What was said of the items, by their places, is the request that a run is lent.
 ghost use Rattle.std.specs.Prelude.{◌<◌};
 
-use crate::{calls, fault, items, lent, lines};
-use sim_report::calls::ERASE_SECTORS;
+use crate::item::Item;
+use crate::sectors::{SectorList, sector_of};
+use qspi_calls::start;
+use qspi_operation::Op;
+use qspi_script::Status;
+use sim_report::call::Call;
+use zedboard_bsp::qspi_spansion::SECTOR_SIZE;
 
-// What is wrong with an item of this call, which was on a line or, with 0, on none.
-fn fitting(call: usize, item: usize, line: usize) -> usize {
-    if calls::takes(call, item) {
-        if line == 0 && item != items::DUMMY {
-            return fault::NEEDED;
+// Bytes of data, or to be read.
+pub const MOST_BYTES: u32 = 4096;
+
+// Accesses that the log has room for.
+pub const MOST_ACCESSES: u32 = 16384;
+
+// After how many accesses the power fails.
+#[derive(Clone, Copy)]
+pub enum Cut {
+    Never,
+    After(usize),
+    // After every number of accesses, one after the other.
+    Every,
+}
+
+// What a call does not take is at its default, and changes nothing: with an enum of what each call takes, every
+// reader of a field would match the calls again, and name the same default there.
+#[derive(Drop)]
+pub struct Request {
+    pub call: Call,
+    // 0 for a call that takes none and looks at none: an Option would be unwrapped at each start, to 0.
+    pub address: u32,
+    pub data: Vec<u8>,
+    pub length: usize,
+    pub dummy: bool,
+    pub log: usize,
+    // How many there are, where that is limited.
+    pub replies: Option<usize>,
+    pub sectors: SectorList,
+    // The line that says where the call lies: 0 only of one that lies nowhere, of which no fault tells.
+    pub place_line: usize,
+}
+
+// A row of calls, the choices of the device, and the part of the array from `base` on as it is before them.
+#[derive(Drop)]
+pub struct CallRow {
+    pub requests: Vec<Request>,
+    pub busy: u32,
+    pub gap: u32,
+    pub cut: Cut,
+    pub base: u32,
+    pub before: Vec<u8>,
+}
+
+impl Request {
+    pub fn has_list(&self) -> bool {
+        self.call == Call::EraseSectors
+    }
+
+    // The operation, with a log of so many words.
+    pub fn begin(&self, log: usize) -> Op {
+        let address = self.address;
+        let data = self.data.len();
+        let buffer = self.length;
+        match self.call {
+            Call::WriteEnable => start::write_enable(log),
+            Call::WriteDisable => start::write_disable(log),
+            Call::ClearStatus => start::clear_status(log),
+            Call::Disable => start::disable(log),
+            Call::ReadStatusRegister1 => start::read_status_register_1(log),
+            Call::ReadConfigurationRegister => start::read_configuration_register(log),
+            Call::ReadRdidBase => start::read_rdid_base(log),
+            Call::ReadRdidExtended => start::read_rdid_extended(log),
+            Call::EraseSector => start::erase_sector(address, log),
+            Call::Program => start::program(address, data, log),
+            Call::WritePages => start::write_pages(address, data, log),
+            Call::ReadPageRead => start::read_page_read(address, buffer, log),
+            Call::ReadFastRead => start::read_fast_read(address, self.dummy, buffer, log),
+            Call::EraseSectors => self.sectors.begin(log),
         }
-        return fault::NOTHING;
     }
-    if line == 0 {
-        fault::NOTHING
-    } else {
-        fault::NOT_TAKEN
-    }
-}
 
-// What is missing is told by the call's line.
-fn told_by(wrong: usize, item: usize) -> usize {
-    if wrong == fault::NEEDED {
-        items::CALL
-    } else {
-        item
+    // Whether the call lies anywhere: it names a place, and is not refused at its start.
+    pub fn is_located(&self) -> bool {
+        Item::of_place(self.call).is_taken_by(self.call) && self.begin(0).status == Status::Going
     }
-}
 
-// Whether there is an item if the call needs it, and only if it takes it.
-fn checked_item(call: usize, item: usize, said: &mut [usize]) -> usize {
-    let wrong = fitting(call, item, items::line_of(said, item));
-    if wrong != fault::NOTHING {
-        let line = items::line_of(said, told_by(wrong, item));
-        items::stand_at(said, line, item);
-    }
-    wrong
-}
-
-// Whether there is what the call needs, and nothing else.
-fn checked(call: usize, said: &mut [usize]) -> usize {
-    let mut item = items::ADDRESS;
-    while item <= items::DUMMY {
-        let wrong = checked_item(call, item, said);
-        if wrong != fault::NOTHING {
-            return wrong;
+    // The lowest sector of the call.
+    pub fn base(&self) -> u32
+        ensures base { result < 16777216 }
+    {
+        if self.has_list() {
+            self.sectors.base()
+        } else {
+            sector_of(self.address)
         }
-        item += 1;
     }
-    checked_item(call, items::SECTORS, said)
-}
 
-// What names no call: the line `then` behind or before it, or the end of the input.
-fn no_call(is_last: bool, said: &mut [usize]) -> usize {
-    let next = std::num::wrapping_add_usize(items::of(said, items::LAST_LINE), 1);
-    if !is_last {
-        items::stand_at(said, next, items::THEN);
-        return fault::NO_CALL_BEFORE;
-    }
-    let line = items::line_of(said, items::THEN);
-    if line == 0 {
-        items::stand_at(said, next, items::UNKNOWN);
-        fault::NO_CALL
-    } else {
-        items::stand_at(said, line, items::THEN);
-        fault::NO_CALL_BEHIND
-    }
-}
-
-// Reads one request of a row; of what the flash holds only whether it is said well.
-fn read_one(text: &[u8], is_last: bool, said: &mut [usize], data: &mut [u8]) -> usize {
-    items::begin_call(said);
-    let wrong = lines::read(text, 0, 0, said, data);
-    if wrong != fault::NOTHING {
-        return wrong;
-    }
-    if items::line_of(said, items::CALL) == 0 {
-        return no_call(is_last, said);
-    }
-    let wrong = checked(items::of(said, items::CALL), said);
-    if wrong == fault::NOTHING {
-        lent::note(said);
-    }
-    wrong
-}
-
-// Reads the requests of a row, and the lines between them.
-fn read_all(input: &[u8], said: &mut [usize], data: &mut [u8]) -> usize {
-    let mut at = 0;
-    while at <= input.len() {
-        let end = lines::request_end(input, at);
-        let is_last = end == input.len();
-        let wrong = read_one(&input[at..end], is_last, said, data);
-        if wrong != fault::NOTHING {
-            return wrong;
+    // Where the bytes end that the call programs or erases.
+    pub fn work_end(&self) -> usize {
+        let address = self.address as usize;
+        match self.call {
+            Call::EraseSectors => self.sectors.end(),
+            Call::EraseSector => address + SECTOR_SIZE,
+            Call::Program | Call::WritePages => address + self.data.len(),
+            _ => 0,
         }
-        let wrong = lines::pass_then(input, end, said);
-        if wrong != fault::NOTHING {
-            return wrong;
+    }
+
+    // The sector that is erased after so many: the call's own, or that of its list, as long as there is one.
+    pub fn sector_at_hand(&self, done: usize) -> Option<u32> {
+        if self.has_list() {
+            self.sectors.as_slice().get(done).copied()
+        } else {
+            Some(self.address)
         }
-        at = lines::next_request(input, end);
     }
-    fault::NOTHING
-}
-
-// Reads a row of requests, and gives what is wrong with it. What the flash holds can be put into the part
-// of the array once all addresses are known.
-pub fn read(input: &[u8], said: &mut [usize], data: &mut [u8], array: &mut [u8]) -> usize {
-    let wrong = read_all(input, said, data);
-    if wrong != fault::NOTHING {
-        return wrong;
-    }
-    let outside = lent::outside(said);
-    if !lent::is_enough(said) {
-        let line = items::of(said, items::HIGHEST_LINE);
-        let item = items::of(said, items::HIGHEST_ITEM);
-        items::stand_at(said, line, item);
-        return outside;
-    }
-    let base = lent::base_of(said) as usize;
-    let end = lent::end_of(said);
-    items::stand_at(said, 0, items::UNKNOWN);
-    let wrong = lines::read(input, base, end, said, array);
-    if wrong == fault::OUTSIDE {
-        outside
-    } else {
-        wrong
-    }
-}
-
-// Whether the call takes a list.
-pub fn has_list(request: &[usize]) -> bool {
-    items::of(request, items::CALL) == ERASE_SECTORS
-}
-
-// The sector of an address, which has 24 bits in the flash.
-pub fn sector_of(address: u32) -> u32
-    ensures sector { result < 16777216 }
-{
-    address % 0x100_0000 / 0x1_0000 * 0x1_0000
-}
-
-pub fn address(request: &[usize]) -> u32 {
-    word(items::of(request, items::ADDRESS))
-}
-
-pub fn word(n: usize) -> u32 {
-    (n % 0x1_0000_0000) as u32
 }

@@ -2,69 +2,50 @@
 // under a line with its number.
 #![tactic(auto)]
 
-ghost use Rattle.std.specs.Prelude.{◌<◌, ◌≤◌, length};
+ghost use Rattle.std.specs.Prelude.{length};
+ghost use Rattle.std.specs.Iterator.{at_most};
 
-const STDIN_FILENO: i32 = 0;
+use std::io;
+use std::io::Read;
 
-const STDOUT_FILENO: i32 = 1;
+const INPUT: u64 = 32768;
 
-fn main() {
-    let mut input = [0u8; 32768];
-    let len = io::read_full(STDIN_FILENO, &mut input);
-    each(&input[..len]);
-}
+const APART: &[u8] = b"----\n";
 
-fn each(input: &[u8]) {
-    let mut number: usize = 1;
-    let mut at = 0;
-    while at < input.len() {
-        let end = end_from(input, at);
-        title(number);
-        sim_console::simulate_text(&input[at..end]);
-        number = std::num::wrapping_add_usize(number, 1);
-        at = behind(at, end, input.len());
+fn main(rt: HostRuntime) -> io::Result<()> {
+    let mut input = Vec::new(rt.alloc());
+    rt.reader().take(INPUT).read_to_end(&mut input)?;
+    let inputs = Inputs {
+        rest: input.as_slice(),
+    };
+    for (number, text) in (1..=usize::MAX).zip(inputs) {
+        println!(rt; "---- {number}")?;
+        sim_console::simulate_text(&rt, text)?;
     }
+    Ok(())
 }
 
-fn title(number: usize) {
-    io::write_all(STDOUT_FILENO, b"---- ");
-    io::print_decimal(STDOUT_FILENO, number as u64);
-    io::write_all(STDOUT_FILENO, b"\n");
+// The inputs that are left, apart by lines of dashes.
+#[derive(Clone, Copy)]
+struct Inputs<'a> {
+    rest: &'a [u8],
 }
 
-// Where the request that begins at a place ends.
-fn end_from(input: &[u8], from: usize) -> usize
-    requires { from < length input.now }
-    ensures within { (from ≤ result) × (result ≤ length input.now) }
-{
-    let mut at = from;
-    while at < input.len() {
-        if is_apart(input, at) {
-            return at;
+impl<'a> Iterator for Inputs<'a> {
+    type Item = &'a [u8];
+
+    ghost remaining = { λ inputs. at_most (length inputs.rest.now) };
+
+    fn next(&mut self) -> Option<&'a [u8]> {
+        let inputs = self.rest;
+        if inputs.is_empty() {
+            return None;
         }
-        at += 1;
+        let (text, rest) = match inputs.windows(5).position(|window| window == APART) {
+            Some(end) => (&inputs[..end], &inputs[end + 5..]),
+            None => (inputs, &inputs[inputs.len()..]),
+        };
+        self.rest = rest;
+        Some(text)
     }
-    at
-}
-
-fn is_apart(input: &[u8], at: usize) -> bool {
-    if at < input.len() {
-        return dashes(&input[at..]);
-    }
-    false
-}
-
-fn dashes(rest: &[u8]) -> bool {
-    if rest.len() < 5 {
-        return false;
-    }
-    rest[0] == b'-' && rest[1] == b'-' && rest[2] == b'-' && rest[3] == b'-' && rest[4] == b'\n'
-}
-
-// The place behind the dashes, or the end of the input: past where the request began.
-fn behind(from: usize, end: usize, len: usize) -> usize
-    requires { (from < len) × (from ≤ end) × (end ≤ len) }
-    ensures further { (from < result) × (result ≤ len) }
-{
-    if len - end < 5 { len } else { end + 5 }
 }

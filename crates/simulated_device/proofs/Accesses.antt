@@ -1,6 +1,6 @@
 -- One access to the simulated device is one that the controller allows: a read gives what it may, and a write has the controller's effect.
 -- A refused write is none. Assumes nothing.
-use Prim.Native.Nat.{ℕ, zero, suc, ◌+◌, ◌-◌, ◌≤◌, ◌<◌}
+use Prim.Native.Nat.{ℕ, suc, ◌+◌, ◌-◌, ◌≤◌, ◌<◌}
 use mathlib.Core.Path.{◌≡◌, refl, sym, ap, ◌∙◌, subst}
 use mathlib.Core.Bool.{Bool, true, false, cond, true≢false}
 use mathlib.Core.List.{List, [], ◌∷◌, ◌++◌, append_assoc, append-nil}
@@ -21,7 +21,6 @@ use Rattle.power_cut.proofs.Levels.{high_stored}
 use Rattle.simulated_device.specs.Simulated.{Sim, sim_of, no_words, word_out, can_go_now, passed, taken_from, after_take, interrupt_status, answered, read_of, width_at, After, write_of, wrote}
 use Rattle.simulated_device.specs.Simulated as sim
 use Rattle.simulated_device.specs.Running.{after_read, after_write}
-use Rattle.simulated_device.specs.declared.Device.{Device}
 use Rattle.simulated_device.specs.declared.Tx.{Tx}
 use Rattle.simulated_device.proofs.Standing.{Holds, Fits, Stands, stands, stands_as, Leads, nowhere, on}
 use Rattle.simulated_device.proofs.WordsOut.{join_snoc, passes}

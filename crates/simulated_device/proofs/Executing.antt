@@ -4,6 +4,7 @@ use mathlib.Core.Path.{◌≡◌, refl, sym, ap, ◌∙◌}
 use mathlib.Core.Bool.{Bool, true, false, cond}
 use mathlib.Core.Option.{none, some}
 use mathlib.Core.List.{List, [], ◌∷◌}
+use Rattle.std.specs.Prelude.{Option, Some, None}
 use native.Mathlib.Omega.{arith}
 use lib.Dec.{eqb, ltb}
 use lib.ListN.{length, get_or, take, drop, length-drop}
@@ -14,7 +15,7 @@ use Rattle.power_cut.specs.Flash as model
 use Rattle.power_cut.specs.Controller.{Trace, still, quiet, idle}
 use Rattle.power_cut.specs.Controller as controller
 use Rattle.simulated_device.specs.Replies.{byte_at, address_in}
-use Rattle.simulated_device.specs.Simulated.{no_words, with_config, accepted, refusal, no_work, programming, erasing, asked_for, within, done_from, latched, Executed, works, executed}
+use Rattle.simulated_device.specs.Simulated.{no_words, with_config, accepted, refusal, programming, erasing, asked_for, within, done_from, latched, Executed, works, worked_on, executed}
 use Rattle.simulated_device.specs.declared.Chip.{Chip}
 use Rattle.simulated_device.specs.declared.Device.{Device}
 use Rattle.simulated_device.specs.declared.work.Work.{Work}
@@ -157,12 +158,12 @@ begins d v array array₁ m w h = go (eqb d.choices.busy_reads 0) refl
 
 -- work on a part of the array, or a refusal
 works_out : (d : Device) (v : ℕ) (x : Work) (sent array : List ℕ) (m : Array) (w : model.Work)
-    → (Inside x d.choices.base (length array) → (y : ℕ) → model.done w m y ≡ byte_at (done_from x.size 0 x (x.target - d.choices.base) d.tx.bytes sent array) d.choices.base y)
+    → (Inside x d.choices.base (length array) → (y : ℕ) → model.done w m y ≡ byte_at (done_from x.size 0 x.effect (x.target - d.choices.base) d.tx.bytes sent array) d.choices.base y)
     → Outcome d v array (flash m false (some w)) (works d v x sent array)
 works_out d v x sent array m w h = go (within x d.choices.base (length array)) refl
   where
     go : (b : Bool) → within x d.choices.base (length array) ≡ b
-        → Outcome d v array (flash m false (some w)) (cond b (record { written = accepted (with_config d v no_words (record { latch = false; busy = d.choices.busy_reads })); array = done_from x.size 0 x (x.target - d.choices.base) d.tx.bytes sent array }) (record { written = refusal d; array = array }))
+        → Outcome d v array (flash m false (some w)) (cond b (record { written = accepted (with_config d v no_words (record { latch = false; busy = d.choices.busy_reads })); array = done_from x.size 0 x.effect (x.target - d.choices.base) d.tx.bytes sent array }) (record { written = refusal d; array = array }))
     go true e = begins d v array _ m w (h (inside x d.choices.base (length array) e))
     go false e = stopped
 
@@ -192,18 +193,18 @@ module _ (d : Device) (v : ℕ) (sent array : List ℕ) (room : d.tx.bytes ≤ l
 
   module _ (idle₁ : d.chip.busy ≡ 0) (m : Array) (old : (x : ℕ) → m x ≡ byte_at array d.choices.base x) where
     -- a command without work: the latch is what it makes of it
-    no_work_lem : (latch : Bool) → (asked_for d.chip bytes sent).there ≡ false → latched d.chip bytes sent ≡ record { latch = latch; busy = 0 }
+    no_work_lem : (latch : Bool) → asked_for d.chip bytes sent ≡ None → latched d.chip bytes sent ≡ record { latch = latch; busy = 0 }
         → Outcome d v array (flash m latch none) (executed d v sent array)
     no_work_lem latch e f = rw (e, f) (obeyed {k = record { latch = latch; busy = 0 }} (resting refl old) (λ c t u w r. still))
 
     chip_is : (latch : Bool) → d.chip.latch ≡ latch → d.chip ≡ record { latch = latch; busy = 0 }
     chip_is latch e = rw (sym e, sym idle₁)
 
-    no_target : (get_or sent 0 0 ≡ 0x02 → bytes ≤ 4) → (get_or sent 0 0 ≡ 0xD8 → bytes ≤ 3) → (asked_for d.chip bytes sent).there ≡ false
+    no_target : (get_or sent 0 0 ≡ 0x02 → bytes ≤ 4) → (get_or sent 0 0 ≡ 0xD8 → bytes ≤ 3) → asked_for d.chip bytes sent ≡ None
     no_target p q = go (eqb d.chip.busy 0) d.chip.latch (eqb (get_or sent 0 0) 0x02) (ltb 4 bytes) (eqb (get_or sent 0 0) 0xD8) (ltb 3 bytes) refl refl refl refl
       where
         go : (b l t t₄ u u₃ : Bool) → eqb (get_or sent 0 0) 0x02 ≡ t → ltb 4 bytes ≡ t₄ → eqb (get_or sent 0 0) 0xD8 ≡ u → ltb 3 bytes ≡ u₃
-            → (cond b (cond l (cond t (cond t₄ (programming (address_in sent)) no_work) (cond u (cond u₃ (erasing (address_in sent)) no_work) no_work)) no_work) no_work).there ≡ false
+            → cond b (cond l (cond t (cond t₄ (Some (programming (address_in sent))) None) (cond u (cond u₃ (Some (erasing (address_in sent))) None) None)) None) None ≡ None
         go false l t t₄ u u₃ e₂ e₄ e₈ e₃ = refl
         go true false t t₄ u u₃ e₂ e₄ e₈ e₃ = refl
         go true true true true u u₃ e₂ e₄ e₈ e₃ =
@@ -235,13 +236,11 @@ module _ (d : Device) (v : ℕ) (sent array : List ℕ) (room : d.tx.bytes ≤ l
             absurd (omega arith)
         go true true false false e₀ e₆ e₄ = refl
 
-    target : (w : Work) → asked_for d.chip bytes sent ≡ w → w.there ≡ true → (mw : model.Work)
-        → (Inside w d.choices.base (length array) → (y : ℕ) → model.done mw m y ≡ byte_at (done_from w.size 0 w (w.target - d.choices.base) bytes sent array) d.choices.base y)
+    target : (w : Work) → asked_for d.chip bytes sent ≡ Some w → (mw : model.Work)
+        → (Inside w d.choices.base (length array) → (y : ℕ) → model.done mw m y ≡ byte_at (done_from w.size 0 w.effect (w.target - d.choices.base) bytes sent array) d.choices.base y)
         → Outcome d v array (flash m false (some mw)) (executed d v sent array)
-    target w e t mw h =
-        let without : Executed = record { written = accepted (with_config d v no_words (latched d.chip bytes sent)); array = array } in
-        let is-work : executed d v sent array ≡ works d v w sent array =
-        ap (λ (z : Work). cond z.there (works d v z sent array) without) e ∙ ap (λ (b : Bool). cond b (works d v w sent array) without) t in
+    target w e mw h =
+        let is-work : executed d v sent array ≡ works d v w sent array = ap (λ (z : Option Work). worked_on d v z sent array) e in
         rw is-work (works_out d v w sent array m mw h)
 
     -- page program
@@ -249,10 +248,10 @@ module _ (d : Device) (v : ℕ) (sent array : List ℕ) (room : d.tx.bytes ≤ l
         → Outcome d v array (obey m latch (page_program (record { address = address_from bs; bytes = drop 4 bs }))) (executed d v sent array)
     unfolding obey
     programs h p true l =
-        let e : asked_for d.chip bytes sent ≡ programming (address_in sent) =
+        let e : asked_for d.chip bytes sent ≡ Some (programming (address_in sent)) =
         rw (eq-eqb d.chip.busy 0 idle₁, l, eq-eqb (get_or sent 0 0) 0x02 h, lt-ltb 4 bytes p) in
         rw (address_is (omega arith))
-        (target (programming (address_in sent)) e refl (model.programming (record { address = address_in sent; bytes = drop 4 bs }))
+        (target (programming (address_in sent)) e (model.programming (record { address = address_in sent; bytes = drop 4 bs }))
         (λ i. program_worked (address_in sent) d.choices.base bytes sent array (drop 4 bs) m i old (length-drop 4 bs ∙ ap (λ (z : ℕ). z - 4) count) data_at))
     programs h p false l =
         no_work_lem false (rw (eq-eqb d.chip.busy 0 idle₁, l))
@@ -264,10 +263,10 @@ module _ (d : Device) (v : ℕ) (sent array : List ℕ) (room : d.tx.bytes ≤ l
     unfolding obey
     erases h p true l =
         let n : get_or sent 0 0 ≡ 0x02 → ⊥ = (λ x. omega (arith, h, x)) in
-        let e : asked_for d.chip bytes sent ≡ erasing (address_in sent) =
+        let e : asked_for d.chip bytes sent ≡ Some (erasing (address_in sent)) =
         rw (eq-eqb d.chip.busy 0 idle₁, l, ne_eqb (get_or sent 0 0) 0x02 n, eq-eqb (get_or sent 0 0) 0xD8 h, lt-ltb 3 bytes p) in
         rw (address_is p)
-        (target (erasing (address_in sent)) e refl (model.erasing (address_in sent / 65536 * 65536) 65536)
+        (target (erasing (address_in sent)) e (model.erasing (address_in sent / 65536 * 65536) 65536)
         (λ i. erase_worked (address_in sent) d.choices.base bytes sent array m i old))
     erases h p false l =
         no_work_lem false (rw (eq-eqb d.chip.busy 0 idle₁, l))
@@ -310,4 +309,4 @@ unfolding execute
 executes d v sent array f room (resting {m} z old) = obeys d v sent array room z m old (asks (take d.tx.bytes sent))
 executes d v sent array f room (working {m} {w} z old) =
     let n : d.chip.busy ≡ 0 → ⊥ = (λ e. omega arith) in
-    rw (ne_eqb d.chip.busy 0 n) (obeyed {k = d.chip} {array₁ = array} (working z old) (λ c t u x r. still))
+    rw (ne_eqb d.chip.busy 0 n, ne_eqb d.chip.busy 0 n) (obeyed {k = d.chip} {array₁ = array} (working z old) (λ c t u x r. still))

@@ -16,17 +16,12 @@ use Rattle.zynq7000.specs.declared.qspi.Access.TheVariants as access
 use Rattle.qspi_transfer.specs.Wire.{wire_next}
 use Rattle.qspi_transfer.specs.declared.Due.{Due}
 use Rattle.qspi_transfer.specs.declared.Due.TheVariants as due
-use Rattle.qspi_transfer.specs.declared.Moved.{Moved}
-use Rattle.qspi_transfer.specs.declared.Moved.TheVariants.{On, Over}
+use Rattle.qspi_transfer.specs.declared.Wire.{Wire}
 use Rattle.qspi_script.specs.Stages.{frame_of}
 use Rattle.qspi_operation.specs.declared.Op.{Op}
-use Rattle.qspi_operation.specs.declared.Asked.{Asked}
-use Rattle.qspi_operation.specs.declared.Asked.TheVariants as asked
-use Rattle.qspi_operation.specs.declared.Reply.{Reply}
-use Rattle.qspi_operation.specs.declared.Reply.TheVariants.{Word, Nothing}
-use Rattle.qspi_operation.specs.declared.Verdict.{Verdict}
-use Rattle.qspi_operation.specs.declared.Verdict.TheVariants.{Ended, Changed, Full, Dry, Made}
-use Rattle.qspi_operation.specs.Step.{is_going, access_of, shown, pick_asked, due_of, answered, choose, same_lengths, verdict_of, act, moved_by, counted, noted, written}
+use Rattle.std.specs.Prelude.{Option, Some, None, Ok}
+use Rattle.qspi_operation.specs.Step.{Verdict, Ended, Changed, Full, Dry, Made}
+use Rattle.qspi_operation.specs.Step.{Asked, length_changed, is_going, access_of, shown, pick_asked, due_of, answered, choose, same_lengths, verdict_of, act, moved_by, counted, noted, written}
 use Rattle.qspi_operation.proofs.Runs.{kept}
 use Rattle.qspi_operation.proofs.Verdicts.{makes, ends}
 use Rattle.power_cut.specs.Flash.{Array, Work, programming, erasing, done, erased, programmed, Spares, flash, AfterCut}
@@ -61,9 +56,9 @@ take_written log at first v p =
 used_made : (o : Op) (first v : ℕ) (read : Bool) → (act (Made first v read) o).op.used ≡ o.used + 2
 used_made o first v read = go (wire_next o.wire (frame_of o.job o.place) v)
   where
-    go : (m : Moved) → (moved_by m o (o.used + 2) (counted read o.replies)).op.used ≡ o.used + 2
-    go (On w) = refl
-    go Over = refl
+    go : (m : Option Wire) → (moved_by m o (o.used + 2) (counted read o.replies)).op.used ≡ o.used + 2
+    go (Some w) = refl
+    go None = refl
 
 same_used : (v : Verdict) (o : Op) → makes v ≡ false → (act v o).op.used ≡ o.used
 same_used Ended o h = refl
@@ -98,7 +93,7 @@ pub record Further (bytes : List ℕ) (base : ℕ) (before : controller.Device) 
   pub most : length log ≤ n
   pub each : goes_on t.ran ≡ true → length log ≡ n
 
-module _ (bytes : List ℕ) (base : ℕ) (before : controller.Device) (o : Op) (buffer log : List ℕ) (r : Reply) (s : Sim) where
+module _ (bytes : List ℕ) (base : ℕ) (before : controller.Device) (o : Op) (buffer log : List ℕ) (r : Option ℕ) (s : Sim) where
   abbrev verdict : Verdict
   verdict = verdict_of o bytes (length buffer) (length log) r
 
@@ -131,16 +126,16 @@ module _ (bytes : List ℕ) (base : ℕ) (before : controller.Device) (o : Op) (
 -- ---- what is due
 
 data Knows (o : Op) (bytes : List ℕ) : Asked → Type 0 where
-  reading : {x : ℕ} → is_going o.status ≡ true → access_of o.job o.place o.wire bytes ≡ due.Read x → Knows o bytes (asked.Read x)
-  writing : {x v : ℕ} → is_going o.status ≡ true → access_of o.job o.place o.wire bytes ≡ due.Write x v → Knows o bytes (asked.Write x v)
-  ended : is_going o.status ≡ false → Knows o bytes asked.Nothing
-  changed : eqb (length bytes) o.job.lent.«data» ≡ false → Knows o bytes asked.LentLengthChanged
+  reading : {x : ℕ} → is_going o.status ≡ true → access_of o.job o.place o.wire bytes ≡ due.Read x → Knows o bytes (Ok (Some (due.Read x)))
+  writing : {x v : ℕ} → is_going o.status ≡ true → access_of o.job o.place o.wire bytes ≡ due.Write x v → Knows o bytes (Ok (Some (due.Write x v)))
+  ended : is_going o.status ≡ false → Knows o bytes (Ok None)
+  changed : eqb (length bytes) o.job.lent.«data» ≡ false → Knows o bytes length_changed
 
 knows : (o : Op) (bytes : List ℕ) → Knows o bytes (due_of o bytes)
 knows o bytes = go (is_going o.status) (eqb (length bytes) o.job.lent.«data») (access_of o.job o.place o.wire bytes) refl refl refl
   where
     go : (g l : Bool) (d : Due) → is_going o.status ≡ g → eqb (length bytes) o.job.lent.«data» ≡ l → access_of o.job o.place o.wire bytes ≡ d
-        → Knows o bytes (pick_asked g (pick_asked l (shown d) asked.LentLengthChanged) asked.Nothing)
+        → Knows o bytes (pick_asked g (pick_asked l (shown d) length_changed) (Ok None))
     go true true (due.Read x) e f h = reading e h
     go true true (due.Write x v) e f h = writing e h
     go true false d e f h = changed f
@@ -166,7 +161,7 @@ module _ (bytes : List ℕ) (base : ℕ) (before : controller.Device) (replies :
   o = t.ran.op
 
   -- the driver makes no access, and the device stands as it does
-  idles : (r : Reply) → makes (verdict_of o bytes (length t.buffer) (length t.log) r) ≡ false → Further bytes base before (suc (length l)) (stepped o bytes t.buffer t.log r (sim_in t))
+  idles : (r : Option ℕ) → makes (verdict_of o bytes (length t.buffer) (length t.log) r) ≡ false → Further bytes base before (suc (length l)) (stepped o bytes t.buffer t.log r (sim_in t))
   idles r m = record {
     log = l;
     stage = no_access bytes base before o t.buffer t.log r (sim_in t) m l st.is_log st.within st.leads st.based;
@@ -174,54 +169,54 @@ module _ (bytes : List ℕ) (base : ℕ) (before : controller.Device) (replies :
     each = λ g. absurd (true≢false (sym g ∙ ends o bytes (length t.buffer) (length t.log) r m));
   }
 
-  full : ltb (length t.log - o.used) 2 ≡ true → Further bytes base before (suc (length l)) (stepped o bytes t.buffer t.log Nothing (sim_in t))
+  full : ltb (length t.log - o.used) 2 ≡ true → Further bytes base before (suc (length l)) (stepped o bytes t.buffer t.log None (sim_in t))
   full h =
       let p = ltb-true (length t.log - o.used) 2 h in
       let n : leb (o.used + 2) (length t.log) ≡ false = lt-leb (o.used + 2) (length t.log) (omega (arith, st.within)) in
-      idles Nothing
-      (rw n (no_room (is_going o.status) (same_lengths o.job (length bytes) (length t.buffer) (length t.log)) (answered (access_of o.job o.place o.wire bytes) Nothing)))
+      idles None
+      (rw n (no_room (is_going o.status) (same_lengths o.job (length bytes) (length t.buffer) (length t.log)) (answered (access_of o.job o.place o.wire bytes) None)))
 
-  unlike : same_lengths o.job (length bytes) (length t.buffer) (length t.log) ≡ false → Further bytes base before (suc (length l)) (stepped o bytes t.buffer t.log Nothing (sim_in t))
+  unlike : same_lengths o.job (length bytes) (length t.buffer) (length t.log) ≡ false → Further bytes base before (suc (length l)) (stepped o bytes t.buffer t.log None (sim_in t))
   unlike h =
-      idles Nothing
-      (rw h (no_lengths (is_going o.status) (leb (o.used + 2) (length t.log)) (answered (access_of o.job o.place o.wire bytes) Nothing)))
+      idles None
+      (rw h (no_lengths (is_going o.status) (leb (o.used + 2) (length t.log)) (answered (access_of o.job o.place o.wire bytes) None)))
 
   module _ (alike : same_lengths o.job (length bytes) (length t.buffer) (length t.log) ≡ true) (room : o.used + 2 ≤ length t.log) where
     -- with room and the lengths of the start, what is due decides
-    decided : (r : Reply) {d : Due} → is_going o.status ≡ true → access_of o.job o.place o.wire bytes ≡ d
+    decided : (r : Option ℕ) {d : Due} → is_going o.status ≡ true → access_of o.job o.place o.wire bytes ≡ d
         → verdict_of o bytes (length t.buffer) (length t.log) r ≡ answered d r
     decided r g h = rw (g, alike, le-leb (o.used + 2) (length t.log) room, h)
 
-    ended_idles : is_going o.status ≡ false → makes (verdict_of o bytes (length t.buffer) (length t.log) Nothing) ≡ false
+    ended_idles : is_going o.status ≡ false → makes (verdict_of o bytes (length t.buffer) (length t.log) None) ≡ false
     ended_idles g = rw g
 
     abbrev met : Asked → Bool → Turn
     met a b = after_meeting (met_on a b (sim_in t)) o t.ran.answer bytes t.buffer t.log
 
-    read_turn : (x : ℕ) → is_going o.status ≡ true → access_of o.job o.place o.wire bytes ≡ due.Read x → (b : Bool) → Further bytes base before (suc (length l)) (met (asked.Read x) b)
+    read_turn : (x : ℕ) → is_going o.status ≡ true → access_of o.job o.place o.wire bytes ≡ due.Read x → (b : Bool) → Further bytes base before (suc (length l)) (met (Ok (Some (due.Read x))) b)
     read_turn x g h true =
         let v = (read_of (sim_in t) x).value in
         let y = on st.leads (reads (sim_in t) st.leads.after st.leads.standing x) in
         record {
           log = l ++ access.Read x v ∷ [];
-          stage = an_access bytes base before o t.buffer t.log (Word v) (after_read (sim_in t) x) (access.Read x v) true (decided (Word v) g h) room l st.is_log y (ap (λ (c : Choices). c.base) (read_choices (sim_in t) x) ∙ st.based);
+          stage = an_access bytes base before o t.buffer t.log (Some v) (after_read (sim_in t) x) (access.Read x v) true (decided (Some v) g h) room l st.is_log y (ap (λ (c : Choices). c.base) (read_choices (sim_in t) x) ∙ st.based);
           most = omega (arith, one_more l (access.Read x v));
           each = λ e. one_more l (access.Read x v);
         }
-    read_turn x g h false = idles Nothing (ap makes (decided Nothing g h))
+    read_turn x g h false = idles None (ap makes (decided None g h))
 
-    write_turn : (x v : ℕ) → is_going o.status ≡ true → access_of o.job o.place o.wire bytes ≡ due.Write x v → (b : Bool) → Further bytes base before (suc (length l)) (met (asked.Write x v) b)
+    write_turn : (x v : ℕ) → is_going o.status ≡ true → access_of o.job o.place o.wire bytes ≡ due.Write x v → (b : Bool) → Further bytes base before (suc (length l)) (met (Ok (Some (due.Write x v))) b)
     write_turn x v g h b = go (writes (sim_in t) st.leads.after st.leads.standing x v)
       where
         based₁ : (write_of (sim_in t) x v).written.device.choices.base ≡ base
         based₁ = ap (λ (c : Choices). c.base) (write_choices (sim_in t) x v) ∙ st.based
 
-        go : Attempt st.leads.after (access.Write x v) (write_of (sim_in t) x v) → Further bytes base before (suc (length l)) (met (asked.Write x v) b)
+        go : Attempt st.leads.after (access.Write x v) (write_of (sim_in t) x v) → Further bytes base before (suc (length l)) (met (Ok (Some (due.Write x v))) b)
         go (made n z) =
             rw n
             (record {
               log = l ++ access.Write x v ∷ [];
-              stage = an_access bytes base before o t.buffer t.log Nothing (after_write (write_of (sim_in t) x v)) (access.Write x v) false (decided Nothing g h) room l st.is_log (on st.leads z) based₁;
+              stage = an_access bytes base before o t.buffer t.log None (after_write (write_of (sim_in t) x v)) (access.Write x v) false (decided None g h) room l st.is_log (on st.leads z) based₁;
               most = omega (arith, one_more l (access.Write x v));
               each = λ e. one_more l (access.Write x v);
             })
@@ -237,14 +232,14 @@ module _ (bytes : List ℕ) (base : ℕ) (before : controller.Device) (replies :
     due_turn : (a : Asked) → Knows o bytes a → (b : Bool) → Further bytes base before (suc (length l)) (met a b)
     due_turn a (reading {x} g h) b = read_turn x g h b
     due_turn a (writing {x} {v} g h) b = write_turn x v g h b
-    due_turn a (ended g) b = idles Nothing (ended_idles g)
+    due_turn a (ended g) b = idles None (ended_idles g)
     due_turn a (changed h) b = absurd (true≢false (sym (first_of (eqb (length bytes) o.job.lent.«data») _ alike) ∙ h))
 
   turn_on : Further bytes base before (suc (length l)) (turn_of replies bytes t)
   turn_on = go (same_lengths o.job (length bytes) (length t.buffer) (length t.log)) (ltb (length t.log - o.used) 2) refl refl
     where
       go : (s b : Bool) → same_lengths o.job (length bytes) (length t.buffer) (length t.log) ≡ s → ltb (length t.log - o.used) 2 ≡ b
-          → Further bytes base before (suc (length l)) (after_meeting (met_on (cond s (cond b asked.Nothing (due_of o bytes)) asked.Nothing) (ltb o.replies replies) (sim_in t)) o t.ran.answer bytes t.buffer t.log)
+          → Further bytes base before (suc (length l)) (after_meeting (met_on (cond s (cond b (Ok None) (due_of o bytes)) (Ok None)) (ltb o.replies replies) (sim_in t)) o t.ran.answer bytes t.buffer t.log)
       go false b h k = unlike h
       go true true h k = full k
       go true false h k =

@@ -3,14 +3,16 @@ use Prim.Native.Nat.{ℕ, ◌-◌}
 use mathlib.Core.Path.{◌≡◌, refl, ◌∙◌}
 use mathlib.Core.Bool.{Bool, true, false, cond}
 use mathlib.Core.List.{List}
+use Rattle.std.specs.Prelude.{Option, Some, None}
 use lib.Dec.{eqb, ltb}
 use lib.ListN.{length}
 use Rattle.power_cut.specs.Controller.{high}
-use Rattle.simulated_device.specs.Simulated.{Sim, can_go_now, passed, answered, read_of, width_at, asked_for, within, executed, sending, raised, configured, wrote, write_of, After}
+use Rattle.simulated_device.specs.Simulated.{Sim, can_go_now, passed, answered, read_of, width_at, asked_for, within, worked_on, executed, sending, raised, configured, wrote, write_of, After}
 use Rattle.simulated_device.specs.Simulated as sim
 use Rattle.simulated_device.specs.declared.Choices.{Choices}
 use Rattle.simulated_device.specs.declared.Device.{Device}
 use Rattle.simulated_device.specs.declared.Given.{Given}
+use Rattle.simulated_device.specs.declared.work.Work.{Work}
 
 -- one of two that have the same
 either : {A B : Type 0} (f : A → B) (b : Bool) {x y : A} {z : B} → f x ≡ z → f y ≡ z → f (cond b x y) ≡ z
@@ -41,11 +43,11 @@ pub read_choices : (s : Sim) (o : ℕ) → in_given (read_of s o) ≡ in_sim s
 read_choices s o = answered_choices (passed s).device o (passed s).received ∙ passed_choices s
 
 executed_choices : (d : Device) (v : ℕ) (sent array : List ℕ) → (executed d v sent array).written.device.choices ≡ d.choices
-executed_choices d v sent array =
-    let w = asked_for d.chip d.tx.bytes sent in
-    either (λ (x : sim.Executed). x.written.device.choices) w.there
-    (either (λ (x : sim.Executed). x.written.device.choices) (within w d.choices.base (length array)) refl refl)
-    refl
+executed_choices d v sent array = by_work (asked_for d.chip d.tx.bytes sent)
+  where
+    by_work : (w : Option Work) → (worked_on d v w sent array).written.device.choices ≡ d.choices
+    by_work (Some w) = either (λ (x : sim.Executed). x.written.device.choices) (within w d.choices.base (length array)) refl refl
+    by_work None = refl
 
 raised_choices : (d : Device) (v : ℕ) (sent array : List ℕ) → (raised d v sent array).written.device.choices ≡ d.choices
 raised_choices d v sent array =

@@ -1,6 +1,6 @@
 -- A row of runs against the simulated device is a trace that the power-cut statement speaks of, from the first call on: each call goes on from
 -- where the device stands after the one before. Assumes nothing.
-use Prim.Native.Nat.{ℕ, ◌+◌, ◌-◌, ◌*◌, ◌/◌, ◌≤◌}
+use Prim.Native.Nat.{ℕ, ◌+◌, ◌*◌, ◌/◌, ◌≤◌}
 use mathlib.Core.Path.{◌≡◌, refl, sym, ap, ◌∙◌, subst}
 use mathlib.Core.Bool.{Bool, true, false, cond}
 use mathlib.Core.List.{List, [], ◌∷◌, ◌++◌}
@@ -12,17 +12,17 @@ use Rattle.zynq7000.specs.declared.qspi.Access.{Access}
 use Rattle.zynq7000.proofs.AccessLaws.{length_encode}
 use Rattle.qspi_operation.specs.declared.Op.{Op}
 use Rattle.power_cut.specs.Controller as controller
-use Rattle.simulated_device.specs.Simulated.{Sim, sim_of}
-use Rattle.simulated_device.specs.Running.{Turn, sim_in, goes_on, turns, beginning}
+use Rattle.simulated_device.specs.Simulated.{sim_of}
+use Rattle.simulated_device.specs.Running.{Turn, goes_on, turns, beginning}
 use Rattle.simulated_device.specs.Row.{may_make, row_after, followed, next, Call, Past, turn_in, and_then, row_of, no_call}
-use Rattle.simulated_device.specs.Instance.{Instance, RowInstance}
+use Rattle.simulated_device.specs.Instance.{RowInstance}
 use Rattle.simulated_device.specs.declared.Choices.{Choices}
 use Rattle.simulated_device.specs.declared.run.Ran.{Ran}
 use Rattle.simulated_device.specs.declared.row.Row.{Row}
 use Rattle.simulated_device.specs.declared.row.Followed.{Followed}
 use Rattle.simulated_device.proofs.Standing.{Leads, nowhere, on}
 use Rattle.simulated_device.proofs.Turns.{TurnIs}
-use Rattle.simulated_device.proofs.Instance.{Stage, Further, from_here, start, stands_at_rest, by_trace}
+use Rattle.simulated_device.proofs.Instance.{Further, from_here, start, stands_at_rest, by_trace}
 
 -- ---- what the code promises of the next call
 

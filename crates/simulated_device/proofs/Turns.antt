@@ -1,25 +1,21 @@
 -- A turn of a run, by the access that is due and the device's answer, and the turns of the run's loop. Assumes nothing.
-use Prim.Native.Nat.{ℕ, zero, suc, ◌-◌}
+use Prim.Native.Nat.{ℕ, zero, suc, ◌+◌, ◌-◌, ◌<◌, ◌≤◌}
 use mathlib.Core.Path.{◌≡◌, refl, sym, ap, subst, ◌∙◌}
 use mathlib.Core.Bool.{Bool, true, false, cond}
 use mathlib.Core.List.{List}
+use Rattle.std.specs.Prelude.{Option, None, Result, Ok, Err}
 use native.Mathlib.Omega.{arith}
 use lib.Dec.{ltb}
 use lib.ListN.{length}
-use Rattle.qspi_operation.specs.Step.{step_of, log_of, buffer_of}
-use Rattle.qspi_operation.specs.declared.Asked.{Asked}
-use Rattle.qspi_operation.specs.declared.Asked.TheVariants as asked
+use Rattle.qspi_operation.proofs.Verdicts.{no}
+use Rattle.qspi_operation.specs.Step.{Asked, step_of, log_of, buffer_of}
 use Rattle.qspi_operation.specs.declared.Op.{Op}
-use Rattle.qspi_operation.specs.declared.Reply.{Reply}
-use Rattle.qspi_operation.specs.declared.Reply.TheVariants.{Nothing}
 use Rattle.qspi_operation.specs.declared.Stepped.{Stepped}
-use Rattle.simulated_device.specs.Simulated.{Sim, passed, read_of, write_of}
-use Rattle.simulated_device.specs.Running.{Turn, ran_of, turn_at, sim_in, stepped, Meeting, met_of, met_read, met_write, nothing_for, met_on, due_in, after_meeting, turn_of, goes_on, turns}
-use Rattle.simulated_device.specs.declared.Given.{Given}
-use Rattle.simulated_device.specs.declared.Written.{Written}
+use Rattle.simulated_device.specs.Running.{Turn, ran_of, turn_at, sim_in, stepped, Meeting, met_of, met_on, due_in, after_meeting, turn_of, goes_on, turns}
+use Rattle.simulated_device.specs.declared.Device.{Device}
+use Rattle.simulated_device.specs.declared.Refused.{Refused}
 use Rattle.simulated_device.specs.declared.run.Met.{Met}
 use Rattle.simulated_device.specs.declared.run.Ran.{Ran}
-use Rattle.simulated_device.proofs.Steps.{AfterIs}
 
 abbrev pub turn_from : Ran → List ℕ → List ℕ → List ℕ → List ℕ → List ℕ → Turn
 turn_from r buffer log sent received array = record { ran = r; buffer = buffer; log = log; sent = sent; received = received; array = array }
@@ -29,7 +25,7 @@ abbrev pub TurnIs : Turn → Ran → List ℕ → List ℕ → List ℕ → List
 TurnIs t r buffer log sent received array =
     (r ≡ t.ran) × ((buffer ≡ t.buffer) × ((log ≡ t.log) × ((sent ≡ t.sent) × ((received ≡ t.received) × (array ≡ t.array)))))
 
-abbrev pub StepIs : Op → List ℕ → List ℕ → List ℕ → Reply → Stepped → List ℕ → List ℕ → Type 0
+abbrev pub StepIs : Op → List ℕ → List ℕ → List ℕ → Option ℕ → Stepped → List ℕ → List ℕ → Type 0
 StepIs o bytes buffer log a s buffer₁ log₁ =
     (s ≡ step_of o bytes (length buffer) (length log) a)
     × ((log₁ ≡ log_of o bytes (length buffer) log a) × (buffer₁ ≡ buffer_of o bytes buffer (length log) a))
@@ -45,33 +41,42 @@ is_turn r buffer log sent received array e =
 
 -- ---- the device and the access that is due
 
-abbrev pub MetIs : Meeting → Met → List ℕ → List ℕ → List ℕ → Type 0
+abbrev pub MetIs : Meeting → Result Met Refused → List ℕ → List ℕ → List ℕ → Type 0
 MetIs m x sent received array = (x ≡ met_of m) × ((sent ≡ m.sim.sent) × ((received ≡ m.sim.received) × (array ≡ m.sim.array)))
 
-as_met : {m n : Meeting} {x : Met} {sent received array : List ℕ} → m ≡ n → MetIs n x sent received array → MetIs m x sent received array
-as_met {x = x} {sent = sent} {received = received} {array = array} e p = subst (λ (y : Meeting). MetIs y x sent received array) (sym e) p
+abbrev is_made : Result Met Refused → Bool
+is_made (Ok m) = true
+is_made (Err r) = false
 
-module _ (s : Sim) (a : Asked) (b : Bool) where
-  pub met_read_lem : (o : ℕ) {x : Met} {g : Given} {received : List ℕ} → a ≡ asked.Read o → b ≡ true → x ≡ met_read g → (g ≡ read_of s o) × (received ≡ (passed s).received)
-      → MetIs (met_on a b s) x s.sent received s.array
-  met_read_lem o e k p m = as_met (ap (λ (x : Asked). met_on x b s) e ∙ ap (λ (x : Bool). met_on (asked.Read o) x s) k) (p ∙ ap met_read m.0, (refl, (m.1, refl)))
+abbrev device_in : Result Met Refused → Device
+device_in (Ok m) = m.device
+device_in (Err r) = r.device
 
-  pub met_write_lem : (o v : ℕ) {x : Met} {w : Written} {sent received array : List ℕ} → a ≡ asked.Write o v → x ≡ met_write w → AfterIs (write_of s o v) w sent received array
-      → MetIs (met_on a b s) x sent received array
-  met_write_lem o v e p m = as_met (ap (λ (x : Asked). met_on x b s) e) (p ∙ ap met_write m.0, m.1)
+abbrev reply_in : Result Met Refused → Option ℕ
+reply_in (Ok m) = m.reply
+reply_in (Err r) = None
 
-  -- no access is the device's
-  pub met_not : {x : Met} → met_on a b s ≡ nothing_for s → x ≡ record { device = s.device; reply = Nothing; refused = false } → MetIs (met_on a b s) x s.sent s.received s.array
-  met_not e p = as_met e (p, (refl, (refl, refl)))
+abbrev made_if : Meeting → Bool → Result Met Refused
+made_if y b = cond b (Err (record { device = y.sim.device })) (Ok (record { device = y.sim.device; reply = y.reply }))
 
-  pub dry : (o : ℕ) → a ≡ asked.Read o → b ≡ false → met_on a b s ≡ nothing_for s
-  dry o e k = ap (λ (x : Asked). met_on x b s) e ∙ ap (λ (x : Bool). met_on (asked.Read o) x s) k
+by_refused : (y : Meeting) {b : Bool} {x : Result Met Refused} → y.refused ≡ b → x ≡ met_of y → x ≡ made_if y b
+by_refused y e h = h ∙ ap (made_if y) e
 
-  pub none_due : a ≡ asked.Nothing → met_on a b s ≡ nothing_for s
-  none_due e = ap (λ (x : Asked). met_on x b s) e
+-- the access was made
+met_made : (y : Meeting) {m : Met} → Ok m ≡ met_of y → (y.refused ≡ false) × ((m.device ≡ y.sim.device) × (m.reply ≡ y.reply))
+met_made y {m} h = go y.refused refl
+  where
+    go : (b : Bool) → y.refused ≡ b → (y.refused ≡ false) × ((m.device ≡ y.sim.device) × (m.reply ≡ y.reply))
+    go true e = no (sym (ap is_made (by_refused y e h)))
+    go false e = (e, (ap device_in (by_refused y e h), ap reply_in (by_refused y e h)))
 
-  pub unlike : a ≡ asked.LentLengthChanged → met_on a b s ≡ nothing_for s
-  unlike e = ap (λ (x : Asked). met_on x b s) e
+-- the device refused it
+met_refused : (y : Meeting) {r : Refused} → Err r ≡ met_of y → (y.refused ≡ true) × (r.device ≡ y.sim.device)
+met_refused y {r} h = go y.refused refl
+  where
+    go : (b : Bool) → y.refused ≡ b → (y.refused ≡ true) × (r.device ≡ y.sim.device)
+    go true e = (e, ap device_in (by_refused y e h))
+    go false e = no (ap is_made (by_refused y e h))
 
 -- ---- one turn
 
@@ -80,34 +85,35 @@ due_is : (replies : ℕ) (bytes : List ℕ) (t : Turn) {a : Asked} {b : Bool} �
     → turn_of replies bytes t ≡ after_meeting (met_on a b (sim_in t)) t.ran.op t.ran.answer bytes t.buffer t.log
 due_is replies bytes t e k = rw (e, k)
 
-met_is : {m : Meeting} {x : Met} {sent received array : List ℕ} (r : Ran) (buffer log : List ℕ) → MetIs m x sent received array
+met_is : (m : Meeting) {x : Result Met Refused} {sent received array : List ℕ} (r : Ran) (buffer log : List ℕ) → MetIs m x sent received array
     → turn_from r buffer log sent received array ≡ turn_at r buffer log m.sim
-met_is r buffer log x = simp (x.1.0, x.1.1.0, x.1.1.1)
+met_is m r buffer log x = simp (x.1.0, x.1.1.0, x.1.1.1)
 
 -- the driver steps with what the device has
 pub met_turn : (replies : ℕ) (bytes : List ℕ) (t : Turn) {a : Asked} {b : Bool} {m : Met} {sent received array : List ℕ} {s : Stepped} {buffer log : List ℕ}
-    → a ≡ due_in t.ran.op bytes (length t.buffer) (length t.log) → b ≡ ltb t.ran.op.replies replies → MetIs (met_on a b (sim_in t)) m sent received array
-    → m.refused ≡ false → StepIs t.ran.op bytes t.buffer t.log m.reply s buffer log
+    → a ≡ due_in t.ran.op bytes (length t.buffer) (length t.log) → b ≡ ltb t.ran.op.replies replies → MetIs (met_on a b (sim_in t)) (Ok m) sent received array
+    → StepIs t.ran.op bytes t.buffer t.log m.reply s buffer log
     → turn_from (ran_of s.op s.answer m.device false) buffer log sent received array ≡ turn_of replies bytes t
-met_turn replies bytes t {a} {b} {m} {sent} {received} {array} {s} {buffer} {log} e k x h p =
+met_turn replies bytes t {a} {b} {m} {sent} {received} {array} {s} {buffer} {log} e k x p =
     let y : Meeting = met_on a b (sim_in t) in
-    let q = subst (λ (z : Met). StepIs t.ran.op bytes t.buffer t.log z.reply s buffer log) x.0 p in
-    let f : y.refused ≡ false = sym (ap (λ (z : Met). z.refused) x.0) ∙ h in
-    let d : m.device ≡ y.sim.device = ap (λ (z : Met). z.device) x.0 in
-    met_is (ran_of s.op s.answer m.device false) buffer log x
+    let made = met_made y x.0 in
+    let q = subst (λ (z : Option ℕ). StepIs t.ran.op bytes t.buffer t.log z s buffer log) made.1.1 p in
+    let f : y.refused ≡ false = made.0 in
+    let d : m.device ≡ y.sim.device = made.1.0 in
+    met_is y (ran_of s.op s.answer m.device false) buffer log x
     ∙ (simp (d, q.0, q.1.0, q.1.1)
     (sym (due_is replies bytes t e k ∙ ap (λ (z : Bool). cond z (turn_at (ran_of t.ran.op t.ran.answer y.sim.device true) t.buffer t.log y.sim) (stepped t.ran.op bytes t.buffer t.log y.reply y.sim)) f)))
 
 -- the device refuses
-pub refused_turn : (replies : ℕ) (bytes : List ℕ) (t : Turn) {a : Asked} {b : Bool} (m : Met) {sent received array : List ℕ}
-    → a ≡ due_in t.ran.op bytes (length t.buffer) (length t.log) → b ≡ ltb t.ran.op.replies replies → MetIs (met_on a b (sim_in t)) m sent received array
-    → m.refused ≡ true
-    → turn_from (ran_of t.ran.op t.ran.answer m.device true) t.buffer t.log sent received array ≡ turn_of replies bytes t
-refused_turn replies bytes t {a} {b} m e k x h =
+pub refused_turn : (replies : ℕ) (bytes : List ℕ) (t : Turn) {a : Asked} {b : Bool} (r : Refused) {sent received array : List ℕ}
+    → a ≡ due_in t.ran.op bytes (length t.buffer) (length t.log) → b ≡ ltb t.ran.op.replies replies → MetIs (met_on a b (sim_in t)) (Err r) sent received array
+    → turn_from (ran_of t.ran.op t.ran.answer r.device true) t.buffer t.log sent received array ≡ turn_of replies bytes t
+refused_turn replies bytes t {a} {b} r e k x =
     let y : Meeting = met_on a b (sim_in t) in
-    let f : y.refused ≡ true = sym (ap (λ (z : Met). z.refused) x.0) ∙ h in
-    let d : m.device ≡ y.sim.device = ap (λ (z : Met). z.device) x.0 in
-    met_is (ran_of t.ran.op t.ran.answer m.device true) t.buffer t.log x
+    let refused = met_refused y x.0 in
+    let f : y.refused ≡ true = refused.0 in
+    let d : r.device ≡ y.sim.device = refused.1 in
+    met_is y (ran_of t.ran.op t.ran.answer r.device true) t.buffer t.log x
     ∙ (simp d
     (sym (due_is replies bytes t e k ∙ ap (λ (z : Bool). cond z (turn_at (ran_of t.ran.op t.ran.answer y.sim.device true) t.buffer t.log y.sim) (stepped t.ran.op bytes t.buffer t.log y.reply y.sim)) f)))
 
@@ -119,16 +125,18 @@ module _ (replies : ℕ) (bytes : List ℕ) where
   unfolding turns
   turn_again n t g e = simp g (ap (λ (x : Turn). turns n replies bytes x) (sym e))
 
-  pub turn_more : (left : ℕ) (t : Turn) {u : Turn} → goes_on t.ran ≡ true → u ≡ turn_of replies bytes t → (left ≡ 0 → ⊥)
-      → turns left replies bytes t ≡ turns (left - 1) replies bytes u
-  turn_more left t {u} g e h =
-      let more : left ≡ suc (left - 1) = omega (arith, h) in
-      ap (λ (n : ℕ). turns n replies bytes t) more ∙ turn_again (left - 1) t g e
+  pub turn_more : (n i : ℕ) (t : Turn) {u : Turn} → goes_on t.ran ≡ true → u ≡ turn_of replies bytes t → i < n
+      → turns (n - i) replies bytes t ≡ turns (n - (i + 1)) replies bytes u
+  turn_more n i t {u} g e h =
+      let more : n - i ≡ suc (n - (i + 1)) = omega arith in
+      ap (λ (k : ℕ). turns k replies bytes t) more ∙ turn_again (n - (i + 1)) t g e
 
   -- the power fails
-  pub none_left : (left : ℕ) (t : Turn) → left ≡ 0 → turns left replies bytes t ≡ t
+  pub none_left : (n i : ℕ) (t : Turn) → n ≤ i → turns (n - i) replies bytes t ≡ t
   unfolding turns
-  none_left left t h = rw h refl
+  none_left n i t h =
+      let over : n - i ≡ 0 = omega arith in
+      rw over refl
 
   pub no_turn : (n : ℕ) (t : Turn) → goes_on t.ran ≡ false → turns n replies bytes t ≡ t
   unfolding turns
@@ -136,6 +144,6 @@ module _ (replies : ℕ) (bytes : List ℕ) where
   no_turn (suc n) t g = simp g
 
   -- the device refused
-  pub turn_over : (left : ℕ) (t : Turn) {u : Turn} → goes_on t.ran ≡ true → u ≡ turn_of replies bytes t → (left ≡ 0 → ⊥) → goes_on u.ran ≡ false
-      → turns left replies bytes t ≡ u
-  turn_over left t {u} g e n h = turn_more left t g e n ∙ no_turn (left - 1) u h
+  pub turn_over : (n i : ℕ) (t : Turn) {u : Turn} → goes_on t.ran ≡ true → u ≡ turn_of replies bytes t → i < n → goes_on u.ran ≡ false
+      → turns (n - i) replies bytes t ≡ u
+  turn_over n i t {u} g e h r = turn_more n i t g e h ∙ no_turn (n - (i + 1)) u r

@@ -1,6 +1,6 @@
 -- Words go out as the controller lets them: each with a reply that shows what it must, and the work is done after the last status read that
 -- showed it. Assumes nothing.
-use Prim.Native.Nat.{ℕ, zero, suc, ◌+◌, ◌-◌, ◌≤◌, ◌<◌}
+use Prim.Native.Nat.{ℕ, suc, ◌+◌, ◌-◌, ◌≤◌, ◌<◌}
 use mathlib.Core.Path.{◌≡◌, refl, sym, ap, ◌∙◌}
 use mathlib.Core.Bool.{Bool, true, false, cond, true≢false}
 use mathlib.Core.List.{List, [], ◌∷◌, ◌++◌, append_assoc, append-nil}
@@ -18,7 +18,7 @@ use Rattle.simulated_device.specs.Replies.{status_of, reply_of}
 use Rattle.simulated_device.specs.Simulated.{Sim, sim_of, shown, can_go_now, word_out, with_tx, waited, passed}
 use Rattle.simulated_device.specs.declared.Chip.{Chip}
 use Rattle.simulated_device.proofs.Steps.{released_not_out, has_room}
-use Rattle.simulated_device.proofs.Standing.{Holds, resting, working, Fits, Stands, stands, stands_as, Leads, nowhere, on}
+use Rattle.simulated_device.proofs.Standing.{Holds, resting, working, Fits, Stands, stands, stands_as, Leads, nowhere}
 
 no : {A : Type 0} → true ≡ false → A
 no e = absurd (true≢false e)

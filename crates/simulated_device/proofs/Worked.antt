@@ -16,6 +16,7 @@ use Rattle.power_cut.specs.Flash.{Array, byte_address, lands_from, lands, anded,
 use Rattle.power_cut.specs.Flash as flash
 use Rattle.simulated_device.specs.Replies.{byte_at}
 use Rattle.simulated_device.specs.Simulated.{done_byte, done_from, within, programming, erasing}
+use Rattle.simulated_device.specs.declared.work.Effect.{Effect}
 use Rattle.simulated_device.specs.declared.work.Work.{Work}
 use Rattle.simulated_device.proofs.Steps.{get_d_inside}
 
@@ -24,16 +25,16 @@ use Rattle.simulated_device.proofs.Steps.{get_d_inside}
 abbrev pub Apart : ℕ → ℕ → ℕ → Type 0
 Apart y from n = (y < from) ⊎ (from + n ≤ y)
 
-module _ (w : Work) (at bytes : ℕ) (sent : List ℕ) where
+module _ (does : Effect) (at bytes : ℕ) (sent : List ℕ) where
   abbrev new : ℕ → List ℕ → ℕ
-  new i l = done_byte w (get_or l (at + i) 0) i bytes sent
+  new i l = done_byte does (get_or l (at + i) 0) i bytes sent
 
-  done_kept : (n i : ℕ) (l : List ℕ) → length (done_from n i w at bytes sent l) ≡ length l
+  done_kept : (n i : ℕ) (l : List ℕ) → length (done_from n i does at bytes sent l) ≡ length l
   unfolding done_from
   done_kept zero i l = refl
   done_kept (suc n) i l = done_kept n (suc i) (set l (at + i) (new i l)) ∙ length-set l (at + i) (new i l)
 
-  done_apart : (n i : ℕ) (l : List ℕ) (y : ℕ) → Apart y (at + i) n → get_or (done_from n i w at bytes sent l) y 0xFF ≡ get_or l y 0xFF
+  done_apart : (n i : ℕ) (l : List ℕ) (y : ℕ) → Apart y (at + i) n → get_or (done_from n i does at bytes sent l) y 0xFF ≡ get_or l y 0xFF
   unfolding done_from
   done_apart zero i l y p = refl
   done_apart (suc n) i l y (inl p) =
@@ -43,24 +44,24 @@ module _ (w : Work) (at bytes : ℕ) (sent : List ℕ) where
 
   -- byte j of the target
   done_there : (n i : ℕ) (l : List ℕ) (j : ℕ) → i ≤ j → j < i + n → at + i + n ≤ length l
-      → get_or (done_from n i w at bytes sent l) (at + j) 0xFF ≡ done_byte w (get_or l (at + j) 0xFF) j bytes sent
+      → get_or (done_from n i does at bytes sent l) (at + j) 0xFF ≡ done_byte does (get_or l (at + j) 0xFF) j bytes sent
   unfolding done_from
   done_there zero i l j p q r = absurd (omega arith)
   done_there (suc n) i l j p q r =
       go (eqb i j) refl (λ h. done_there n (suc i) (set l (at + i) (new i l)) j h (omega arith) (rw (length-set l (at + i) (new i l)) (omega arith)))
     where
       go : (b : Bool) → eqb i j ≡ b
-          → (suc i ≤ j → get_or (done_from n (suc i) w at bytes sent (set l (at + i) (new i l))) (at + j) 0xFF ≡ done_byte w (get_or (set l (at + i) (new i l)) (at + j) 0xFF) j bytes sent)
-          → get_or (done_from n (suc i) w at bytes sent (set l (at + i) (new i l))) (at + j) 0xFF ≡ done_byte w (get_or l (at + j) 0xFF) j bytes sent
+          → (suc i ≤ j → get_or (done_from n (suc i) does at bytes sent (set l (at + i) (new i l))) (at + j) 0xFF ≡ done_byte does (get_or (set l (at + i) (new i l)) (at + j) 0xFF) j bytes sent)
+          → get_or (done_from n (suc i) does at bytes sent (set l (at + i) (new i l))) (at + j) 0xFF ≡ done_byte does (get_or l (at + j) 0xFF) j bytes sent
       go true e more =
           let h : i ≡ j = eqb-true i j e in
           rw (sym h)
           (done_apart n (suc i) (set l (at + i) (new i l)) (at + i) (inl (omega arith))
-          ∙ (get_or-set_same l (at + i) (new i l) 0xFF (omega arith) ∙ ap (λ (z : ℕ). done_byte w z i bytes sent) (get_d_inside l (at + i) 0 0xFF (omega arith))))
+          ∙ (get_or-set_same l (at + i) (new i l) 0xFF (omega arith) ∙ ap (λ (z : ℕ). done_byte does z i bytes sent) (get_d_inside l (at + i) 0 0xFF (omega arith))))
       go false e more =
           let h = eqb-false i j e in
           more (omega (arith, h))
-          ∙ ap (λ (z : ℕ). done_byte w z j bytes sent) (get_or-set_other l (at + i) (at + j) (new i l) 0xFF (λ f. h (omega arith)))
+          ∙ ap (λ (z : ℕ). done_byte does z j bytes sent) (get_or-set_other l (at + i) (at + j) (new i l) 0xFF (λ f. h (omega arith)))
 
 -- ---- where a program's bytes land in its page
 
@@ -133,15 +134,15 @@ inside w base room h = low (ltb w.target base) refl h
 
 -- an array that is the old one outside of the target, and in it what the work makes of the old one, is the one after the work
 worked : (w : Work) (base bytes : ℕ) (sent array : List ℕ) (m new : Array) → Inside w base (length array) → ((x : ℕ) → m x ≡ byte_at array base x)
-    → ((x : ℕ) → Apart x w.target w.size → new x ≡ m x) → ((j : ℕ) → j < w.size → new (w.target + j) ≡ done_byte w (m (w.target + j)) j bytes sent)
-    → (x : ℕ) → new x ≡ byte_at (done_from w.size 0 w (w.target - base) bytes sent array) base x
+    → ((x : ℕ) → Apart x w.target w.size → new x ≡ m x) → ((j : ℕ) → j < w.size → new (w.target + j) ≡ done_byte w.effect (m (w.target + j)) j bytes sent)
+    → (x : ℕ) → new x ≡ byte_at (done_from w.size 0 w.effect (w.target - base) bytes sent array) base x
 worked w base bytes sent array m new i old out there x = below (ltb x base) refl
   where
     at : ℕ
     at = w.target - base
 
     array₁ : List ℕ
-    array₁ = done_from w.size 0 w (w.target - base) bytes sent array
+    array₁ = done_from w.size 0 w.effect (w.target - base) bytes sent array
 
     -- past the base
     apart : base ≤ x → Apart x w.target w.size → Apart (x - base) (w.target - base + 0) w.size
@@ -150,7 +151,7 @@ worked w base bytes sent array m new i old out there x = below (ltb x base) refl
 
     beside : base ≤ x → Apart x w.target w.size → new x ≡ get_or array₁ (x - base) 0xFF
     beside p a =
-        out x a ∙ (old x ∙ (rw (le-ltb x base p) (sym (done_apart w (w.target - base) bytes sent w.size 0 array (x - base) (apart p a)))))
+        out x a ∙ (old x ∙ (rw (le-ltb x base p) (sym (done_apart w.effect (w.target - base) bytes sent w.size 0 array (x - base) (apart p a)))))
 
     within₁ : w.target ≤ x → x < w.target + w.size → new x ≡ get_or array₁ (x - base) 0xFF
     within₁ p q =
@@ -161,8 +162,8 @@ worked w base bytes sent array m new i old out there x = below (ltb x base) refl
         ap m (sym e) ∙ (old x ∙ rw (le-ltb x base (omega (arith, i.above)), y)) in
         ap new e
         ∙ (there (x - w.target) (omega arith)
-        ∙ (ap (λ (z : ℕ). done_byte w z (x - w.target) bytes sent) b
-        ∙ (sym (done_there w (w.target - base) bytes sent w.size 0 array (x - w.target) (omega arith) (omega arith) (omega (arith, i.below)))
+        ∙ (ap (λ (z : ℕ). done_byte w.effect z (x - w.target) bytes sent) b
+        ∙ (sym (done_there w.effect (w.target - base) bytes sent w.size 0 array (x - w.target) (omega arith) (omega arith) (omega (arith, i.below)))
         ∙ ap (λ (z : ℕ). get_or array₁ z 0xFF) (sym y))))
 
     inside₁ : (b c : Bool) → ltb x w.target ≡ b → ltb x (w.target + w.size) ≡ c → base ≤ x → new x ≡ get_or array₁ (x - base) 0xFF
@@ -179,7 +180,7 @@ worked w base bytes sent array m new i old out there x = below (ltb x base) refl
 -- ---- a sector erase
 
 pub erase_worked : (a base bytes : ℕ) (sent array : List ℕ) (m : Array) → Inside (erasing a) base (length array) → ((x : ℕ) → m x ≡ byte_at array base x)
-    → (x : ℕ) → erased (a / 65536 * 65536) 65536 m x ≡ byte_at (done_from 65536 0 (erasing a) (a / 65536 * 65536 - base) bytes sent array) base x
+    → (x : ℕ) → erased (a / 65536 * 65536) 65536 m x ≡ byte_at (done_from 65536 0 (erasing a).effect (a / 65536 * 65536 - base) bytes sent array) base x
 unfolding erased
 erase_worked a base bytes sent array m i old = worked (erasing a) base bytes sent array m (erased (a / 65536 * 65536) 65536 m) i old out there
   where
@@ -210,7 +211,7 @@ and_landed old k bytes bs sent n same false e =
 
 pub program_worked : (a base bytes : ℕ) (sent array bs : List ℕ) (m : Array) → Inside (programming a) base (length array) → ((x : ℕ) → m x ≡ byte_at array base x)
     → length bs ≡ bytes - 4 → ((k : ℕ) → k < length bs → get_or bs k 0 ≡ get_or sent (k + 4) 0)
-    → (x : ℕ) → flash.programmed (record { address = a; bytes = bs }) m x ≡ byte_at (done_from 256 0 (programming a) (a / 256 * 256 - base) bytes sent array) base x
+    → (x : ℕ) → flash.programmed (record { address = a; bytes = bs }) m x ≡ byte_at (done_from 256 0 (programming a).effect (a / 256 * 256 - base) bytes sent array) base x
 unfolding flash.programmed lands
 program_worked a base bytes sent array bs m i old n same = worked (programming a) base bytes sent array m (flash.programmed c m) i old out there
   where
@@ -221,7 +222,7 @@ program_worked a base bytes sent array bs m i old n same = worked (programming a
     out x (inl p) = rw (lands_elsewhere a x (λ e. omega arith) bs 0)
     out x (inr p) = rw (lands_elsewhere a x (λ e. omega arith) bs 0)
 
-    there : (j : ℕ) → j < 256 → flash.programmed c m (a / 256 * 256 + j) ≡ done_byte (programming a) (m (a / 256 * 256 + j)) j bytes sent
+    there : (j : ℕ) → j < 256 → flash.programmed c m (a / 256 * 256 + j) ≡ done_byte (programming a).effect (m (a / 256 * 256 + j)) j bytes sent
     there j p =
         let k = ((a / 256 * 256 + j) % 256 + 256 - a % 256) % 256 in
         let z : k - 0 ≡ k = omega arith in

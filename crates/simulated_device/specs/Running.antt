@@ -1,16 +1,12 @@
 -- A call of the driver against the simulated device: each step is lent what the device gives. The log is the driver's own.
-use Rattle.std.specs.Prelude.{ℕ, zero, suc, ◌-◌, Bool, true, false, cond, List, ltb, length}
+use Rattle.std.specs.Prelude.{ℕ, zero, suc, ◌-◌, Bool, true, false, cond, List, Option, Some, None, Result, Ok, Err, ltb, length}
 use Rattle.qspi_script.specs.declared.Status.{Status}
 use Rattle.qspi_operation.specs.declared.Op.{Op}
-use Rattle.qspi_operation.specs.declared.Asked.{Asked}
-use Rattle.qspi_operation.specs.declared.Asked.TheVariants as asked
-use Rattle.qspi_operation.specs.declared.Reply.{Reply}
-use Rattle.qspi_operation.specs.declared.Reply.TheVariants.{Word, Nothing}
-use Rattle.qspi_operation.specs.Step.{is_going, due_of, step_of, log_of, buffer_of, same_lengths}
+use Rattle.qspi_transfer.specs.declared.Due.TheVariants.{Read, Write}
+use Rattle.qspi_operation.specs.Step.{Asked, is_going, due_of, step_of, log_of, buffer_of, same_lengths}
 use Rattle.simulated_device.specs.Simulated.{Sim, sim_of, passed, read_of, After, write_of}
 use Rattle.simulated_device.specs.declared.Device.{Device}
-use Rattle.simulated_device.specs.declared.Given.{Given}
-use Rattle.simulated_device.specs.declared.Written.{Written}
+use Rattle.simulated_device.specs.declared.Refused.{Refused}
 use Rattle.simulated_device.specs.declared.run.Met.{Met}
 use Rattle.simulated_device.specs.declared.run.Ran.{Ran}
 
@@ -33,7 +29,7 @@ abbrev pub sim_in : Turn → Sim
 sim_in t = sim_of t.ran.device t.sent t.received t.array
 
 -- the driver steps, while the device stands so
-abbrev pub stepped : Op → List ℕ → List ℕ → List ℕ → Reply → Sim → Turn
+abbrev pub stepped : Op → List ℕ → List ℕ → List ℕ → Option ℕ → Sim → Turn
 stepped o bytes buffer log r s =
     turn_at
     (ran_of (step_of o bytes (length buffer) (length log) r).op (step_of o bytes (length buffer) (length log) r).answer s.device false)
@@ -49,35 +45,29 @@ after_write x = sim_of x.written.device x.sent x.received x.array
 
 -- what the device has for the access that is due
 pub record Meeting : Type 0 where
-  pub reply : Reply
+  pub reply : Option ℕ
   pub sim : Sim
   pub refused : Bool
 
 -- as the code hands it on
-abbrev pub met_of : Meeting → Met
-met_of m = record { device = m.sim.device; reply = m.reply; refused = m.refused }
-
-abbrev pub met_read : Given → Met
-met_read g = record { device = g.device; reply = Word g.value; refused = false }
-
-abbrev pub met_write : Written → Met
-met_write w = record { device = w.device; reply = Nothing; refused = w.refused }
+abbrev pub met_of : Meeting → Result Met Refused
+met_of m = cond m.refused (Err (record { device = m.sim.device })) (Ok (record { device = m.sim.device; reply = m.reply }))
 
 abbrev pub nothing_for : Sim → Meeting
-nothing_for s = record { reply = Nothing; sim = s; refused = false }
+nothing_for s = record { reply = None; sim = s; refused = false }
 
 -- a read gets a reply where one is left, and a write that the device refuses is not made
 abbrev pub met_on : Asked → Bool → Sim → Meeting
-met_on (asked.Read o) true s = record { reply = Word (read_of s o).value; sim = after_read s o; refused = false }
-met_on (asked.Read o) false s = nothing_for s
-met_on (asked.Write o v) left s = record { reply = Nothing; sim = after_write (write_of s o v); refused = (write_of s o v).written.refused }
-met_on asked.Nothing left s = nothing_for s
-met_on asked.LentLengthChanged left s = nothing_for s
+met_on (Ok (Some (Read o))) true s = record { reply = Some (read_of s o).value; sim = after_read s o; refused = false }
+met_on (Ok (Some (Read o))) false s = nothing_for s
+met_on (Ok (Some (Write o v))) left s = record { reply = None; sim = after_write (write_of s o v); refused = (write_of s o v).written.refused }
+met_on (Ok None) left s = nothing_for s
+met_on (Err changed) left s = nothing_for s
 
 -- where another length is lent than at the start the step is 25, and without room 24: the device sees nothing of it
 abbrev pub due_in : Op → List ℕ → ℕ → ℕ → Asked
 due_in o bytes buffer room =
-    cond (same_lengths o.job (length bytes) buffer room) (cond (ltb (room - o.used) 2) asked.Nothing (due_of o bytes)) asked.Nothing
+    cond (same_lengths o.job (length bytes) buffer room) (cond (ltb (room - o.used) 2) (Ok None) (due_of o bytes)) (Ok None)
 
 abbrev pub after_meeting : Meeting → Op → Status → List ℕ → List ℕ → List ℕ → Turn
 after_meeting m o a bytes buffer log =

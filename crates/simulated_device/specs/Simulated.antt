@@ -1,6 +1,6 @@
 -- The simulated device: one of those that specs/Controller of power_cut allows (proofs/Instance). Quotations are from document 01, "The flash,
 -- as defined here".
-use Rattle.std.specs.Prelude.{ℕ, zero, suc, ◌+◌, ◌-◌, ◌*◌, ◌/◌, ◌%◌, Bool, true, false, cond, List, eqb, ltb, leb, length, get_or, set, take}
+use Rattle.std.specs.Prelude.{ℕ, zero, suc, ◌+◌, ◌-◌, ◌*◌, ◌/◌, ◌%◌, Bool, true, false, cond, List, Option, Some, None, Result, Ok, Err, eqb, ltb, leb, length, get_or, set, take}
 use Rattle.std.specs.Int.Bits.{bit_and}
 use Rattle.std.proofs.lemmas.List.Edits.{sets}
 use Rattle.zynq7000.specs.Bits.{is_set, clear}
@@ -14,7 +14,9 @@ use Rattle.simulated_device.specs.declared.Device.{Device}
 use Rattle.simulated_device.specs.declared.Given.{Given}
 use Rattle.simulated_device.specs.declared.Rx.{Rx}
 use Rattle.simulated_device.specs.declared.Tx.{Tx}
-use Rattle.simulated_device.specs.declared.Written.{Written}
+use Rattle.simulated_device.specs.declared.Refused.{Refused}
+use Rattle.simulated_device.specs.declared.work.Effect.{Effect}
+use Rattle.simulated_device.specs.declared.work.Effect.TheVariants.{Erase, Program}
 use Rattle.simulated_device.specs.declared.work.Work.{Work}
 
 -- the device with the memory that it is lent
@@ -121,10 +123,18 @@ read_of s o = answered (passed s).device o (passed s).received
 
 -- ---- writes
 
+-- the device after a write, and whether it cannot do this: then the access is not made
+pub record Written : Type 0 where
+  pub device : Device
+  pub refused : Bool
+
+-- as the code hands it on
+abbrev pub outcome : Written → Result Device Refused
+outcome w = cond w.refused (Err (record { device = w.device })) (Ok w.device)
+
 abbrev pub accepted : Device → Written
 accepted d = record { device = d; refused = false }
 
--- the device cannot do this, and the access is not made
 abbrev pub refusal : Device → Written
 refusal d = record { device = d; refused = true }
 
@@ -169,26 +179,23 @@ started t v = cond (is_set 16 v) (record { bytes = t.bytes; written = t.written;
 
 -- ---- work
 
-abbrev pub no_work : Work
-no_work = record { there = false; erases = false; target = 0; size = 0; «from» = 0 }
-
 -- a program stays in its page, as in specs/Flash of power_cut
 abbrev pub programming : ℕ → Work
-programming a = record { there = true; erases = false; target = a / page_size * page_size; size = page_size; «from» = a % page_size }
+programming a = record { target = a / page_size * page_size; size = page_size; effect = Program (a % page_size) }
 
 abbrev pub erasing : ℕ → Work
-erasing a = record { there = true; erases = true; target = a / sector_size * sector_size; size = sector_size; «from» = 0 }
+erasing a = record { target = a / sector_size * sector_size; size = sector_size; effect = Erase }
 
 -- "Page program (02) and sector erase (D8) need the latch"; "A program command without data changes nothing"; "While busy only status read
 -- (05) and clear status (30) are obeyed"
-abbrev pub asked_for : Chip → ℕ → List ℕ → Work
+abbrev pub asked_for : Chip → ℕ → List ℕ → Option Work
 asked_for c bytes sent =
     cond (eqb c.busy 0)
     (cond c.latch
-    (cond (eqb (get_or sent 0 0) 0x02) (cond (ltb 4 bytes) (programming (address_in sent)) no_work)
-    (cond (eqb (get_or sent 0 0) 0xD8) (cond (ltb 3 bytes) (erasing (address_in sent)) no_work) no_work))
-    no_work)
-    no_work
+    (cond (eqb (get_or sent 0 0) 0x02) (cond (ltb 4 bytes) (Some (programming (address_in sent))) None)
+    (cond (eqb (get_or sent 0 0) 0xD8) (cond (ltb 3 bytes) (Some (erasing (address_in sent))) None) None))
+    None)
+    None
 
 -- all of it in the part of the array that is lent
 abbrev pub within : Work → ℕ → ℕ → Bool
@@ -199,16 +206,16 @@ abbrev pub sent_for : ℕ → ℕ → ℕ
 sent_for begun i = (i % page_size + page_size - begun % page_size) % page_size + 4
 
 -- "each programmed byte is old AND new, each byte of an erased 64 KiB sector is FF": byte i of the target
-abbrev pub done_byte : Work → ℕ → ℕ → ℕ → List ℕ → ℕ
-done_byte w old i bytes sent =
-    cond w.erases 0xFF
-    (cond (ltb (sent_for w.«from» i) bytes) (bit_and old (get_or sent (sent_for w.«from» i) 0)) old)
+abbrev pub done_byte : Effect → ℕ → ℕ → ℕ → List ℕ → ℕ
+done_byte Erase old i bytes sent = 0xFF
+done_byte (Program begun) old i bytes sent =
+    cond (ltb (sent_for begun i) bytes) (bit_and old (get_or sent (sent_for begun i) 0)) old
 
 -- n bytes of the target from its byte i on; it lies at a place of the lent part
-unfoldable pub done_from : ℕ → ℕ → Work → ℕ → ℕ → List ℕ → List ℕ → List ℕ
-done_from zero i w at bytes sent array = array
-done_from (suc n) i w at bytes sent array =
-    done_from n (suc i) w at bytes sent (set array (at + i) (done_byte w (get_or array (at + i) 0) i bytes sent))
+unfoldable pub done_from : ℕ → ℕ → Effect → ℕ → ℕ → List ℕ → List ℕ → List ℕ
+done_from zero i e at bytes sent array = array
+done_from (suc n) i e at bytes sent array =
+    done_from n (suc i) e at bytes sent (set array (at + i) (done_byte e (get_or array (at + i) 0) i bytes sent))
 
 -- "Write enable (06) sets the latch, write disable (04) clears it"
 abbrev pub latched : Chip → ℕ → List ℕ → Chip
@@ -232,16 +239,18 @@ works d v w sent array =
     cond (within w d.choices.base (length array))
     (record {
       written = accepted (with_config d v no_words (record { latch = false; busy = d.choices.busy_reads }));
-      array = done_from w.size 0 w (w.target - d.choices.base) d.tx.bytes sent array;
+      array = done_from w.size 0 w.effect (w.target - d.choices.base) d.tx.bytes sent array;
     })
     (keeping array (refusal d))
 
+-- the work that is asked for, if any
+abbrev pub worked_on : Device → ℕ → Option Work → List ℕ → List ℕ → Executed
+worked_on d v (Some w) sent array = works d v w sent array
+worked_on d v None sent array = keeping array (accepted (with_config d v no_words (latched d.chip d.tx.bytes sent)))
+
 -- "A command takes effect when chip select rises"; work outside of the lent part is refused
 abbrev pub executed : Device → ℕ → List ℕ → List ℕ → Executed
-executed d v sent array =
-    cond (asked_for d.chip d.tx.bytes sent).there
-    (works d v (asked_for d.chip d.tx.bytes sent) sent array)
-    (keeping array (accepted (with_config d v no_words (latched d.chip d.tx.bytes sent))))
+executed d v sent array = worked_on d v (asked_for d.chip d.tx.bytes sent) sent array
 
 -- chip select rises; over a word that is not out it is refused
 abbrev pub raised : Device → ℕ → List ℕ → List ℕ → Executed

@@ -1,11 +1,13 @@
 // A controller with the flash behind it, to run the driver against on any machine: one device of those
 // that document 01, "The flash, as defined here", allows. Its memory is lent: the bytes sent since chip
-// select fell, the RX words, and a part of the array, outside of which every byte is FF.
+// select fell, the RX words, and a part of the array, outside of which every byte is FF. `Tx` and `Rx` count
+// what is used of it, in place of a `Vec`, so that no access can run out of memory. Each function is lent only
+// the parts that it uses, by `&` where it leaves them alone, and not all three in one struct.
 #![tactic(auto)]
 
 ghost use Rattle.std.specs.Prelude.{◌≡◌, ◌<◌};
 ghost use Rattle.power_cut.specs.Controller.{high};
-ghost use Rattle.simulated_device.specs.Simulated.{no_words, nothing_received, at_rest, with_tx, with_rx, with_config, sim_of, passed, after_take, taken_from, interrupt_status, answered, read_of, accepted, refusal, configured, write_of};
+ghost use Rattle.simulated_device.specs.Simulated.{no_words, nothing_received, at_rest, with_tx, with_rx, with_config, sim_of, passed, after_take, taken_from, interrupt_status, answered, read_of, outcome, configured, write_of};
 
 use crate::work::raise;
 use zynq7000::qspi::Config;
@@ -100,31 +102,13 @@ pub fn at_rest(choices: Choices) -> Device
 pub fn with_tx(d: Device, words: Tx) -> Device
     ensures device { result ≡ with_tx d words }
 {
-    let rx = d.rx;
-    let chip = d.chip;
-    let choices = d.choices;
-    Device {
-        config: d.config,
-        tx: words,
-        rx,
-        chip,
-        choices,
-    }
+    Device { tx: words, ..d }
 }
 
 fn with_rx(d: Device, rx: Rx) -> Device
     ensures device { result ≡ with_rx d rx }
 {
-    let tx = d.tx;
-    let chip = d.chip;
-    let choices = d.choices;
-    Device {
-        config: d.config,
-        tx,
-        rx,
-        chip,
-        choices,
-    }
+    Device { rx, ..d }
 }
 
 // ---- reads
@@ -140,12 +124,9 @@ fn after_take(rx: Rx) -> Rx
     requires { rx.taken < rx.put }
     ensures rx { result ≡ after_take rx }
 {
-    let next = rx.taken + 1;
-    if next < rx.put {
-        Rx {
-            put: rx.put,
-            taken: next,
-        }
+    let taken = rx.taken + 1;
+    if taken < rx.put {
+        Rx { taken, ..rx }
     } else {
         nothing_received()
     }
@@ -156,18 +137,16 @@ fn take(d: Device, received: &[u32]) -> Given
     ensures given { result ≡ taken_from d received.now }
 {
     let rx = d.rx;
-    let at = rx.taken;
-    if at < rx.put {
-        if at < received.len() {
-            return Given {
-                device: with_rx(d, after_take(rx)),
-                value: received[at],
-            };
+    if rx.taken < rx.put && rx.taken < received.len() {
+        Given {
+            device: with_rx(d, after_take(rx)),
+            value: received[rx.taken],
         }
-    }
-    Given {
-        device: d,
-        value: 0,
+    } else {
+        Given {
+            device: d,
+            value: 0,
+        }
     }
 }
 
@@ -181,25 +160,13 @@ fn interrupt_status(rx: Rx) -> u32
 fn answered(d: Device, offset: u8, received: &[u32]) -> Given
     ensures given { result ≡ answered d offset received.now }
 {
-    if offset == qspi::CONFIG {
-        return Given {
-            device: d,
-            value: d.config,
-        };
-    }
-    if offset == qspi::INTERRUPT_STATUS {
-        return Given {
-            device: d,
-            value: interrupt_status(d.rx),
-        };
-    }
-    if offset == qspi::RX_DATA {
-        return take(d, received);
-    }
-    Given {
-        device: d,
-        value: 0,
-    }
+    let value = match offset {
+        qspi::CONFIG => d.config,
+        qspi::INTERRUPT_STATUS => interrupt_status(d.rx),
+        qspi::RX_DATA => return take(d, received),
+        _ => 0,
+    };
+    Given { device: d, value }
 }
 
 // A read of a register.
@@ -213,29 +180,10 @@ pub fn read(d: Device, offset: u8, sent: &[u8], received: &mut [u32], array: &[u
 
 // ---- writes
 
+// What this device can not do: the access is not made, and the device stands as it did before it.
 #[derive(Clone, Copy)]
-pub struct Written {
+pub struct Refused {
     pub device: Device,
-    // What this device can not do: then the access is not made.
-    pub refused: bool,
-}
-
-pub fn accepted(device: Device) -> Written
-    ensures written { result ≡ accepted device }
-{
-    Written {
-        device,
-        refused: false,
-    }
-}
-
-pub fn refused(device: Device) -> Written
-    ensures written { result ≡ refusal device }
-{
-    Written {
-        device,
-        refused: true,
-    }
 }
 
 // Chip select is low while bit 10 is clear.
@@ -249,37 +197,25 @@ pub fn is_high(config: u32) -> bool
 pub fn with_config(d: Device, config: u32, tx: Tx, chip: Chip) -> Device
     ensures device { result ≡ with_config d config tx chip }
 {
-    let rx = d.rx;
-    let choices = d.choices;
     Device {
         config: bits::clear(config, Config::MANUAL_START_COMMAND),
         tx,
-        rx,
         chip,
-        choices,
+        ..d
     }
 }
 
-// Config is written, and no access refused.
-fn set_config(d: Device, config: u32, tx: Tx, chip: Chip) -> Written
-    ensures written { result ≡ accepted (with_config d config tx chip) }
-{
-    accepted(with_config(d, config, tx, chip))
-}
-
-fn configure(d: Device, value: u32, sent: &[u8], array: &mut [u8]) -> Written
-    ensures written { result ≡ (configured d value sent.now array.old).written }
+fn configure(d: Device, value: u32, sent: &[u8], array: &mut [u8]) -> Result<Device, Refused>
+    ensures written { result ≡ outcome (configured d value sent.now array.old).written }
     ensures array { array.new ≡ (configured d value sent.now array.old).array }
 {
-    let chip = d.chip;
     if is_high(d.config) {
-        let tx = d.tx;
-        return set_config(d, value, tx, chip);
+        return Ok(with_config(d, value, d.tx, d.chip));
     }
     if is_high(value) {
         return raise(d, value, sent, array);
     }
-    set_config(d, value, words::started(d.tx, value), chip)
+    Ok(with_config(d, value, words::started(d.tx, value), d.chip))
 }
 
 // A write of a register.
@@ -290,8 +226,8 @@ pub fn write(
     sent: &mut [u8],
     received: &mut [u32],
     array: &mut [u8],
-) -> Written
-    ensures written { result ≡ (write_of (sim_of d sent.old received.old array.old) offset value).written }
+) -> Result<Device, Refused>
+    ensures written { result ≡ outcome (write_of (sim_of d sent.old received.old array.old) offset value).written }
     ensures sent { sent.new ≡ (write_of (sim_of d sent.old received.old array.old) offset value).sent }
     ensures received { received.new ≡ (write_of (sim_of d sent.old received.old array.old) offset value).received }
     ensures array { array.new ≡ (write_of (sim_of d sent.old received.old array.old) offset value).array }
@@ -301,7 +237,7 @@ pub fn write(
         return configure(x, value, sent, array);
     }
     if words::width(offset) == 0 {
-        return accepted(x);
+        return Ok(x);
     }
     words::send(x, offset, value, sent)
 }

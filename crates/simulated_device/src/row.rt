@@ -1,6 +1,6 @@
 // A row of calls (document 02, U2): each on the device and the array as the one before left them, and one
 // cut point over the accesses of all.
-ghost use Rattle.std.specs.Prelude.{◌≡◌, ◌-◌};
+ghost use Rattle.std.specs.Prelude.{◌≡◌};
 ghost use Rattle.simulated_device.specs.Row.{row_start, is_stopped, may_make, is_over, row_after, followed, next};
 
 use crate::run::Ran;
@@ -39,14 +39,7 @@ pub fn start(choices: Choices, accesses: usize) -> Row
 pub fn is_stopped(answer: Status) -> bool
     ensures stopped { result ≡ is_stopped answer }
 {
-    if let Status::RepliesEnded = answer {
-        return true;
-    }
-    if let Status::LogFull = answer {
-        true
-    } else {
-        false
-    }
+    matches!(answer, Status::RepliesEnded | Status::LogFull)
 }
 
 // A row that is over is not followed.
@@ -60,33 +53,17 @@ fn may_make(row: Row) -> usize
 fn is_over(row: Row, ran: Ran) -> bool
     ensures over { result ≡ is_over row ran }
 {
-    if row.over {
-        return true;
-    }
-    if ran.refused {
-        return true;
-    }
-    let answer = ran.answer;
-    is_stopped(answer)
-}
-
-fn left_after(left: usize, made: usize) -> usize
-    ensures left { result ≡ left - made }
-{
-    if made < left { left - made } else { 0 }
+    row.over || ran.refused || is_stopped(ran.answer)
 }
 
 // Each access takes two words of log.
 fn row_after(row: Row, ran: Ran) -> Row
     ensures row { result ≡ row_after row ran }
 {
-    let device = ran.device;
-    let op = ran.op;
-    let over = is_over(row, ran);
     Row {
-        device,
-        left: left_after(row.left, op.used / 2),
-        over,
+        device: ran.device,
+        left: row.left.saturating_sub(ran.op.used / 2),
+        over: is_over(row, ran),
     }
 }
 
@@ -109,11 +86,12 @@ pub fn follow(
     ensures received { received.new ≡ (next row op replies «data».now buffer.old log.old sent.old received.old array.old).received }
     ensures array { array.new ≡ (next row op replies «data».now buffer.old log.old sent.old received.old array.old).array }
 {
-    let device = row.device;
     let accesses = may_make(row);
     let ran = run::run(
-        op, device, accesses, replies, data, buffer, log, sent, received, array,
+        op, row.device, accesses, replies, data, buffer, log, sent, received, array,
     );
-    let row = row_after(row, ran);
-    Followed { ran, row }
+    Followed {
+        ran,
+        row: row_after(row, ran),
+    }
 }

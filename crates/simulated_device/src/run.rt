@@ -1,13 +1,13 @@
 // A call of the driver against the device, access by access.
-ghost use Rattle.std.specs.Prelude.{◌≡◌, false, ◌-◌};
-ghost use Rattle.qspi_operation.specs.declared.Reply.TheVariants.{Nothing};
+ghost use Rattle.std.specs.Prelude.{◌≡◌};
 ghost use Rattle.qspi_operation.specs.Step.{same_lengths};
 ghost use Rattle.simulated_device.specs.Simulated.{sim_of};
-ghost use Rattle.simulated_device.specs.Running.{met_of, met_read, met_write, met_on, due_in, beginning, turns};
+ghost use Rattle.simulated_device.specs.Running.{met_of, met_on, due_in, beginning, turns};
 
-use crate::{Device, Given, Written};
-use qspi_operation::{Asked, Op, Reply};
+use crate::{Device, Refused};
+use qspi_operation::{LentLengthChanged, Op};
 use qspi_script::Status;
+use qspi_transfer::Due;
 
 // Where a run stands: the operation and its answer, the device, and whether the device could not go on.
 #[derive(Clone, Copy)]
@@ -22,101 +22,61 @@ pub struct Ran {
 #[derive(Clone, Copy)]
 pub struct Met {
     pub device: Device,
-    pub reply: Reply,
-    pub refused: bool,
-}
-
-// The words of log that are left.
-fn room(length: usize, used: usize) -> usize
-    ensures room { result ≡ length - used }
-{
-    if used < length { length - used } else { 0 }
+    pub reply: Option<u32>,
 }
 
 // Whether each lent length is the one of the start.
 fn same_lengths(op: Op, data: usize, buffer: usize, log: usize) -> bool
     ensures same { result ≡ same_lengths op.job «data» buffer log }
 {
-    if data == op.job.lent.data {
-        if buffer == op.job.lent.buffer {
-            return log == op.job.lent.log;
-        }
-    }
-    false
+    let lent = op.job.lent;
+    data == lent.data && buffer == lent.buffer && log == lent.log
 }
 
 // Another lent length than at the start is answered 25, and no room 24: the device sees nothing of it.
-fn due_in(op: Op, data: &[u8], buffer: usize, log: usize) -> Asked
+fn due_in(op: Op, data: &[u8], buffer: usize, log: usize) -> Result<Option<Due>, LentLengthChanged>
     ensures due { result ≡ due_in op «data».now buffer log }
 {
-    if !same_lengths(op, data.len(), buffer, log) {
-        return Asked::Nothing;
-    }
-    if room(log, op.used) < 2 {
-        return Asked::Nothing;
+    if !same_lengths(op, data.len(), buffer, log) || log.saturating_sub(op.used) < 2 {
+        return Ok(None);
     }
     qspi_operation::due(op, data)
 }
 
-fn nothing_for(device: Device) -> Met
-    ensures met { result ≡ record { device = device; reply = Nothing; refused = false } }
-{
-    Met {
-        device,
-        reply: Reply::Nothing,
-        refused: false,
-    }
-}
-
-fn met_read(given: Given) -> Met
-    ensures met { result ≡ met_read given }
-{
-    let device = given.device;
-    Met {
-        device,
-        reply: Reply::Word(given.value),
-        refused: false,
-    }
-}
-
-fn met_write(written: Written) -> Met
-    ensures met { result ≡ met_write written }
-{
-    let device = written.device;
-    Met {
-        device,
-        reply: Reply::Nothing,
-        refused: written.refused,
-    }
-}
-
 // A read gets a reply where one is left, and a write that the device refuses is not made.
 fn meet(
-    due: Asked,
+    due: Result<Option<Due>, LentLengthChanged>,
     is_left: bool,
     device: Device,
     sent: &mut [u8],
     received: &mut [u32],
     array: &mut [u8],
-) -> Met
+) -> Result<Met, Refused>
     ensures met { result ≡ met_of (met_on due is_left (sim_of device sent.old received.old array.old)) }
     ensures sent { sent.new ≡ (met_on due is_left (sim_of device sent.old received.old array.old)).sim.sent }
     ensures received { received.new ≡ (met_on due is_left (sim_of device sent.old received.old array.old)).sim.received }
     ensures array { array.new ≡ (met_on due is_left (sim_of device sent.old received.old array.old)).sim.array }
 {
     match due {
-        Asked::Read(offset) => {
-            if is_left {
-                return met_read(crate::read(device, offset, sent, received, array));
-            }
+        Ok(Some(Due::Read(offset))) if is_left => {
+            let given = crate::read(device, offset, sent, received, array);
+            Ok(Met {
+                device: given.device,
+                reply: Some(given.value),
+            })
         }
-        Asked::Write(offset, value) => {
-            return met_write(crate::write(device, offset, value, sent, received, array));
+        Ok(Some(Due::Write(offset, value))) => {
+            let device = crate::write(device, offset, value, sent, received, array)?;
+            Ok(Met {
+                device,
+                reply: None,
+            })
         }
-        Asked::Nothing => {}
-        Asked::LentLengthChanged => {}
+        _ => Ok(Met {
+            device,
+            reply: None,
+        }),
     }
-    nothing_for(device)
 }
 
 // Steps a call to its end, or until the power fails after so many accesses: each read with the reply that
@@ -141,25 +101,24 @@ pub fn run(
     ensures array { array.new ≡ (turns accesses replies «data».now (beginning op device buffer.old log.old sent.old received.old array.old)).array }
 {
     let mut answer = op.status;
-    let mut left = accesses;
-    while qspi_operation::is_going(answer) {
-        if left == 0 {
+    for _ in 0..accesses {
+        if !qspi_operation::is_going(answer) {
             break;
         }
-        left -= 1;
         let due = due_in(op, data, buffer.len(), log.len());
-        let met = meet(due, op.replies < replies, device, sent, received, array);
+        let met = match meet(due, op.replies < replies, device, sent, received, array) {
+            Ok(met) => met,
+            Err(refused) => {
+                return Ran {
+                    op,
+                    answer,
+                    device: refused.device,
+                    refused: true,
+                };
+            }
+        };
         device = met.device;
-        let reply = met.reply;
-        if met.refused {
-            return Ran {
-                op,
-                answer,
-                device,
-                refused: true,
-            };
-        }
-        let s = qspi_operation::step(op, data, buffer, log, reply);
+        let s = qspi_operation::step(op, data, buffer, log, met.reply);
         op = s.op;
         answer = s.answer;
     }

@@ -1,87 +1,66 @@
-// An order, under way or ended, beside the run of the same start over the replies that it used; that of a list
-// beside its single erases.
-use crate::call::ERASE_SECTORS;
-use crate::memory::{BYTES, LOG, UNTOUCHED, UNTOUCHED_BYTE};
+// An order, under way or ended, beside the run of the same start over the replies that it used.
+use crate::memory::{BYTES, LOG, Memory, behind, is_untouched};
 use crate::order::Order;
-use crate::tally::SLOTS;
-use crate::{erases, memory, order, tally};
-use qspi_driver::state;
-use qspi_driver::state::{Progress, State};
-use qspi_operation::Stepped;
+use crate::run;
+use crate::tally::{Summary, Tally};
+use crate::walk::Left;
+use qspi_driver::state::Progress;
+use std::alloc::{AllocError, Global};
+use trial_calls::digest::{digest, mix};
+use trial_calls::memory::front;
+use zynq7000::qspi::Access;
 
-pub fn compared(
-    order: Order,
-    progress: Progress,
+// One by one, as in `walk`: the order and its data are only read, and the tally is counted on.
+pub fn compare(
+    alloc: Global,
+    order: &Order,
     data: &[u8],
-    bytes: &[u8],
-    words: &[u32],
-    tally: &mut [u32; SLOTS],
-) {
-    let mut run_bytes = [UNTOUCHED_BYTE; BYTES];
-    let mut run_words = [UNTOUCHED; LOG];
-    let log = memory::front(words, progress.used);
-    let ran = run(
+    left: &Left,
+    tally: &mut Tally,
+) -> Result<(), AllocError> {
+    let progress = left.progress;
+    let log = front(&left.memory.log, progress.used);
+    tally.note(mix(digest(&left.memory.buffer), digest(log)));
+    let replies = replies_of(alloc, log)?;
+    let mut fresh = Memory::untouched();
+    let run_log = &mut fresh.log[..order.lent.log.min(LOG)];
+    let ran = run::run(
+        alloc,
         order,
-        data,
-        &mut run_bytes,
-        &mut run_words,
-        log,
-        progress.replies,
-    );
-    tally::note(
-        tally,
-        memory::mix(memory::digest_bytes(bytes), memory::digest(log)),
-    );
-    tally::expect(tally, tally::RUN, memory::same_bytes(bytes, &run_bytes));
-    tally::expect(tally, tally::RUN, is_same(progress, ran, log, &run_words));
-    tally::expect(
-        tally,
-        tally::MEMORY,
-        memory::untouched(words, progress.used),
-    );
-}
-
-// The run that is lent the fronts of these, over so many replies, which a log says were used.
-fn run(
-    order: Order,
-    data: &[u8],
-    bytes: &mut [u8],
-    words: &mut [u32],
-    log: &[u32],
-    count: usize,
-) -> Progress {
-    let replies = memory::replies(log);
-    let buffer = memory::least(order.buffer, bytes.len());
-    let room = memory::least(order.room, words.len());
-    if order.call == ERASE_SECTORS {
-        return erases::run(order, &mut words[..room], memory::front(&replies, count));
+        front(data, order.lent.data),
+        &mut fresh.buffer[..order.lent.buffer.min(BYTES)],
+        run_log,
+        front(&replies, progress.replies),
+    )?;
+    if left.memory.buffer != fresh.buffer || !is_same(progress, ran, log, &fresh.log) {
+        tally.differs.run = true;
     }
-    finished(qspi_operation::run(
-        order::start(order),
-        memory::front_bytes(data, order.data),
-        &mut bytes[..buffer],
-        &mut words[..room],
-        memory::front(&replies, count),
-    ))
+    if !is_untouched(behind(&left.memory.log, progress.used)) {
+        tally.differs.memory = true;
+    }
+    Ok(())
 }
 
-fn finished(stepped: Stepped) -> Progress {
-    let op = stepped.op;
-    state::answer_so_far(State { op })
+// The replies that a log says were used.
+fn replies_of(alloc: Global, log: &[u32]) -> Result<Vec<u32>, AllocError> {
+    log.chunks(2).filter_map(reply_in).collect(alloc)
+}
+
+fn reply_in(words: &[u32]) -> Option<u32> {
+    let [first, value] = words else { return None };
+    match Access::of_words(*first, *value) {
+        Ok(Access::Read(_, reply)) => Some(reply),
+        _ => None,
+    }
 }
 
 // The run has the same words first. Of a call that is under way it may go on, by writes, and stores no more.
-fn is_same(progress: Progress, ran: Progress, log: &[u32], run_words: &[u32]) -> bool {
-    let status = progress.status;
-    let used = progress.used;
-    if !memory::same(log, memory::front(run_words, used)) {
+fn is_same(progress: Progress, ran: Progress, log: &[u32], run_log: &[u32]) -> bool {
+    if !run_log.starts_with(log) {
         return false;
     }
-    if qspi_operation::is_going(status) {
+    if qspi_operation::is_going(progress.status) {
         return progress.replies == ran.replies;
     }
-    if !memory::untouched(run_words, used) {
-        return false;
-    }
-    tally::summary(progress) == tally::summary(ran)
+    is_untouched(behind(run_log, log.len())) && Summary::from(progress) == Summary::from(ran)
 }

@@ -1,30 +1,16 @@
 // The lengths that a call is lent, and others, of which one at least is not the same.
-use crate::order::Order;
 use crate::random;
-
-#[derive(Clone, Copy)]
-pub struct Lengths {
-    pub data: usize,
-    pub buffer: usize,
-    pub log: usize,
-}
-
-pub fn right(order: Order) -> Lengths {
-    Lengths {
-        data: order.data,
-        buffer: order.buffer,
-        log: order.room,
-    }
-}
+use qspi_script::Lent;
+use trial_calls::draw::Draw;
 
 // By the digits of a draw: which of the three are others, how each is chosen, and how far it is.
-pub fn others(order: Order, draw: u32) -> Lengths {
+pub fn others(lent: Lent, draw: Draw) -> Lent {
     let n = random::number(draw) / 128;
     let which = 1 + n % 7;
-    Lengths {
-        data: either(which % 2 == 1, order.data, n / 7),
-        buffer: either(which / 2 % 2 == 1, order.buffer, n / 35),
-        log: either(which / 4 == 1, order.room, n / 175),
+    Lent {
+        data: either(which % 2 == 1, lent.data, n / 7),
+        buffer: either(which / 2 % 2 == 1, lent.buffer, n / 35),
+        log: either(which / 4 == 1, lent.log, n / 175),
     }
 }
 
@@ -40,8 +26,8 @@ pub fn other(length: usize, n: usize) -> usize {
     match n % 5 {
         0 => 0,
         1 => length - 1,
-        2 => std::num::wrapping_add_usize(length, 1),
+        2 => length.wrapping_add(1),
         3 => n / 5 % length,
-        _ => std::num::wrapping_add_usize(length, 2 + n / 5 % 7),
+        _ => length.wrapping_add(2 + n / 5 % 7),
     }
 }

@@ -2,61 +2,59 @@
 // change nothing, and compares each order with the run over the replies that it used.
 //
 // A line for each call has the orders, the right steps, the steps that met another length, the starts that met
-// a call under way, of a list the starts without it, the queries, the repeated steps, how many orders ended by each answer, how many were left
-// under way, and a digest of all that was seen. Where something differs, a line `DIFFERS` names the call, the
-// order and what it is: what a step, a start or a query said or did, the run, or memory that was to be left
-// alone. `tools/step_orders` makes the stored output by a model.
+// a call under way, of a list the starts without it, the queries, the repeated steps, how many orders ended by
+// each answer, how many were left under way, and a digest of all that was seen. Where something differs, a line
+// `DIFFERS` names the call, the order and what it is: what a step, a start or a query said or did, the run, or
+// memory that was to be left alone. `tools/step_orders` makes the stored output by a model.
 #![tactic(auto)]
 
-use crate::call::CALLS;
-use crate::memory::{BYTES, LOG, UNTOUCHED, UNTOUCHED_BYTE};
 use crate::order::Order;
-use crate::tally::SLOTS;
+use crate::tally::{Differs, Tally};
+use std::alloc::{AllocError, Global};
+use std::io;
+use trial_calls::call::{CALLS, Call};
+use trial_calls::digest::mix;
+use trial_calls::draw::Draw;
 
-mod call;
 mod compare;
-mod erases;
-mod judge;
+mod counts;
+mod digests;
 mod lengths;
 mod list;
 mod memory;
 mod order;
-mod print;
 mod random;
-mod source;
+mod run;
 mod tally;
 mod turn;
 mod walk;
 
 const ORDERS: usize = 400;
 
-fn main() {
-    let mut call: usize = 0;
-    while call < CALLS {
-        orders(call);
-        call += 1;
+fn main(rt: HostRuntime) -> io::Result<()> {
+    for call in CALLS {
+        orders(&rt, rt.alloc(), call)?;
     }
+    Ok(())
 }
 
-fn orders(call: usize) {
-    let mut tally = [0u32; SLOTS];
-    let mut number: usize = 0;
-    while number < ORDERS {
-        let draw = memory::mix_count(memory::mix_count(6, call), number);
-        tally[tally::DIFFERS] = 0;
-        carry_out(order::drawn(call, draw), &mut tally);
-        print::differing(call, number, tally[tally::DIFFERS]);
-        number += 1;
+fn orders(rt: &impl Print, alloc: Global, call: Call) -> io::Result<()> {
+    let mut tally = Tally::new();
+    for number in 0..ORDERS {
+        let draw = Draw(digests::with_number(mix(6, call as u32), number));
+        tally.differs = Differs::default();
+        carry_out(alloc, &Order::drawn(call, draw), &mut tally)?;
+        let differs = tally.differs;
+        if differs != Differs::default() {
+            println!(rt; "DIFFERS {call} order {number}: {differs}")?;
+        }
     }
-    print::line(call, &tally);
+    println!(rt; "{call}: {tally}")
 }
 
-fn carry_out(order: Order, tally: &mut [u32; SLOTS]) {
-    let mut data = [0u8; BYTES];
-    let mut bytes = [UNTOUCHED_BYTE; BYTES];
-    let mut words = [UNTOUCHED; LOG];
-    memory::fill(&mut data, memory::mix(order.draw, 2));
-    let progress = walk::walk(order, &data, &mut bytes, &mut words, tally);
-    tally::ended(tally, progress);
-    compare::compared(order, progress, &data, &bytes, &words, tally);
+fn carry_out(alloc: Global, order: &Order, tally: &mut Tally) -> Result<(), AllocError> {
+    let data = memory::drawn(Draw(mix(order.draw.0, 2)));
+    let left = walk::walk(alloc, order, &data, tally)?;
+    tally.ended(left.progress);
+    compare::compare(alloc, order, &data, &left, tally)
 }

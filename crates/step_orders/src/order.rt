@@ -1,76 +1,108 @@
 // What is drawn for an order: its call's inputs and the lengths that it is lent, how its replies come and after
 // how many they end, after how many turns it is left, and in how many turns two are no right step.
-use crate::call::{CALLS, ERASE_SECTORS};
-use crate::memory::REPLIES;
-use crate::{call, list, random};
+use crate::list;
+use crate::random::{below, number};
 use qspi_operation::Op;
+use qspi_script::Lent;
+use std::alloc::{AllocError, Global};
+use trial_calls::call::{CALLS, Call};
+use trial_calls::draw::Draw;
+use trial_calls::reply::{STYLES, Style};
 
 // More turns than any call takes.
 pub const TURNS: usize = 4096;
 
 #[derive(Clone, Copy)]
 pub struct Order {
-    pub call: usize,
-    pub a: u32,
-    pub b: usize,
-    pub data: usize,
-    pub buffer: usize,
-    pub style: usize,
-    pub room: usize,
-    pub ends: usize,
+    pub call: Call,
+    // The first input, and the second one: a length, or a number that is short.
+    pub word: u32,
+    pub length: usize,
+    pub lent: Lent,
+    pub style: Style,
+    pub replies: usize,
     pub turns: usize,
     pub calm: usize,
-    pub draw: u32,
+    pub draw: Draw,
 }
 
-pub fn drawn(call: usize, draw: u32) -> Order {
-    let pick = random::next(random::next(draw));
-    let first = random::next(pick);
-    let second = random::next(first);
-    let room = random::next(second);
-    let ends = random::next(room);
-    let turns = random::next(ends);
-    let b = measure(call, random::number(pick) / 8 % 8, random::number(second));
-    Order {
-        call,
-        a: input(call, random::number(pick) % 8, random::word(first)),
-        b,
-        data: lent(call, 16, 17, b),
-        buffer: lent(call, 18, 20, b),
-        style: random::number(pick) / 64 % 8,
-        room: size(random::number(room), 40, 1500, 2000),
-        ends: size(random::number(ends), 16, 400, REPLIES),
-        turns: size(random::number(turns), 16, 600, TURNS),
-        calm: calm(random::number(pick) / 512 % 3),
-        draw: turns,
+impl Order {
+    pub fn drawn(call: Call, draw: Draw) -> Order {
+        let picked = draw.next().next();
+        let first = picked.next();
+        let second = first.next();
+        let room = second.next();
+        let replies = room.next();
+        let turns = replies.next();
+        let pick = number(picked);
+        let length = second_input(call, pick / 8 % 8, number(second));
+        Order {
+            call,
+            word: first_input(call, pick % 8, first.word()),
+            length,
+            lent: lent(call, length, size(number(room), 40, 1500, 2000)),
+            style: STYLES[pick / 64 % STYLES.len()],
+            replies: size(number(replies), 16, 400, 1024),
+            turns: size(number(turns), 16, 600, TURNS),
+            calm: calm(pick / 512 % 3),
+            draw: turns,
+        }
+    }
+
+    // Of any call, to be begun while another is under way.
+    pub fn any(draw: Draw) -> Order {
+        Order::drawn(CALLS[number(draw) / 128 % CALLS.len()], draw)
+    }
+
+    pub fn start(&self, alloc: Global) -> Result<Op, AllocError> {
+        let list = self.list(alloc)?;
+        Ok(
+            self.call
+                .start(self.word, self.length, &list, self.lent.log),
+        )
+    }
+
+    // The sectors of a list: no other call is lent one.
+    pub fn list(&self, alloc: Global) -> Result<Vec<u32>, AllocError> {
+        if self.call == Call::EraseSectors {
+            list::drawn(alloc, self.word, self.length)
+        } else {
+            Ok(Vec::new(alloc))
+        }
     }
 }
 
-// Any call, to be begun while another is under way.
-pub fn any(draw: u32) -> Order {
-    drawn(random::number(draw) / 128 % CALLS, draw)
-}
-
-pub fn start(order: Order) -> Op {
-    if order.call == ERASE_SECTORS {
-        return list::start(order);
-    }
-    call::start(order.call, order.a, order.b, order.room)
-}
-
-// Two calls are lent data, and those behind them a buffer.
-fn lent(call: usize, from: usize, to: usize, length: usize) -> usize {
-    if call < from {
-        return 0;
-    }
-    if to < call { 0 } else { length }
-}
-
-// The first input: a field that may be too wide, an address, or a word, of which a byte or a bit may be used.
-fn input(call: usize, pick: usize, word: u32) -> u32 {
+// Two calls are lent data, the reads a buffer.
+fn lent(call: Call, length: usize, log: usize) -> Lent {
+    let none = Lent {
+        data: 0,
+        buffer: 0,
+        log,
+    };
     match call {
-        0 | 13 | 14 => field(pick, word),
-        15..=20 => address(pick, word),
+        Call::Program | Call::WritePages => Lent {
+            data: length,
+            ..none
+        },
+        Call::ReadPageRead | Call::ReadFastRead | Call::ReadFastReadDummy => Lent {
+            buffer: length,
+            ..none
+        },
+        _ => none,
+    }
+}
+
+// The first input: a field that may be too wide, an address, a flag, or a word, of which a byte may be used.
+fn first_input(call: Call, pick: usize, word: u32) -> u32 {
+    match call {
+        Call::Initialize | Call::New | Call::SetWriteProtection => field(pick, word),
+        Call::EraseSector
+        | Call::Program
+        | Call::WritePages
+        | Call::ReadPageRead
+        | Call::ReadFastRead
+        | Call::ReadFastReadDummy => address(pick, word),
+        Call::EnableIoMode => word % 2,
         _ => word,
     }
 }
@@ -96,40 +128,37 @@ fn address(pick: usize, word: u32) -> u32 {
     }
 }
 
-// The second input: the entries of a list, or a length.
-fn measure(call: usize, pick: usize, n: usize) -> usize {
-    if call == ERASE_SECTORS {
-        return list::length(pick, n);
+// The second input: the entries of a list, a length, or a number by call.
+fn second_input(call: Call, pick: usize, n: usize) -> usize {
+    let a_few_words = n % 16 * 4;
+    match call {
+        Call::EraseSectors => list::length(pick, n),
+        // Nine baud rates in four modes.
+        Call::Initialize => length(pick, n, a_few_words) % 36,
+        // Whole chunks.
+        Call::WritePages => length(pick, n, n % 4 * 128 + 128),
+        _ => length(pick, n, a_few_words),
     }
-    length(call, pick, n)
 }
 
-// A length, or a number by call. Any, one near the greatest of `program` and of a read's
-// chunk, one near two chunks of a read, one of whole words, or a short one.
-fn length(call: usize, pick: usize, n: usize) -> usize {
+// Any, one near the greatest of `program` and of a read's chunk, one near two chunks of a read, one of whole
+// words, a short one, or the one that is usual.
+fn length(pick: usize, n: usize, usual: usize) -> usize {
     match pick {
         0 => n % 0x201,
         1 => 236 + n % 16,
         2 => 488 + n % 25,
         3 | 4 => n % 0x81 * 4,
         5 => n % 12,
-        _ => short(call, n),
+        _ => usual,
     }
-}
-
-// A few words; for `write_pages`, the call of number 17, whole chunks.
-fn short(call: usize, n: usize) -> usize {
-    if call == 17 {
-        return n % 4 * 128 + 128;
-    }
-    n % 16 * 4
 }
 
 // Few, some, or enough.
 fn size(n: usize, few: usize, some: usize, enough: usize) -> usize {
     match n % 8 {
-        0 => random::below(n / 8, few),
-        1 | 2 => random::below(n / 8, some),
+        0 => below(n / 8, few),
+        1 | 2 => below(n / 8, some),
         _ => enough,
     }
 }

@@ -1,18 +1,21 @@
-// The draws: the generator of the replies of `call_cases`. A draw leads to the next one, and its word is
-// the draw with its better half below.
-pub fn next(draw: u32) -> u32 {
-    ((draw as u64 * 1664525 + 1013904223) % 0x1_0000_0000) as u32
+// What a draw decides.
+use trial_calls::draw::Draw;
+
+// A number to count or to measure with.
+pub fn number(draw: Draw) -> usize {
+    draw.word() as usize
 }
 
-pub fn word(draw: u32) -> u32 {
-    draw % 0x1_0000 * 0x1_0000 + draw / 0x1_0000
+pub fn byte(draw: Draw) -> u8 {
+    (draw.word() % 0x100) as u8
 }
 
-// The same as a number to count or to measure with.
-pub fn number(draw: u32) -> usize {
-    word(draw) as usize
+// A toss of a coin.
+pub fn is_heads(draw: Draw) -> bool {
+    draw.0 / 0x100_0000 % 2 == 1
 }
 
+// 0 where nothing is below the bound.
 pub fn below(n: usize, bound: usize) -> usize {
     if 0 < bound { n % bound } else { 0 }
 }

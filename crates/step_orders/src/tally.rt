@@ -1,166 +1,201 @@
-// What is counted of a call's orders, what was seen of them as one number, and what differed. The orders that
-// ended by an answer are counted in the slot of its number; of the answers from 32 on, behind the counts.
-use crate::turn::Turn;
-use crate::{judge, memory};
-use qspi_driver::state::{Answer, Progress};
-use qspi_script::{Gives, Number, Status};
+// What is counted of a call's orders, what was seen of them as one number, and what differed.
+use crate::counts::Counts;
+use crate::digests;
+use crate::turn::{Act, Expected, Turn};
+use qspi_driver::state::{Progress, StartRefused};
+use qspi_operation::LentLengthChanged;
+use qspi_script::{Gives, Status};
+use qspi_transfer::Due;
+use std::fmt;
+use trial_calls::digest::mix;
 
-pub const SLOTS: usize = 50;
+// What differed in an order.
+#[derive(Clone, Copy, Default, PartialEq, Eq)]
+pub struct Differs {
+    pub step: bool,
+    pub run: bool,
+    pub memory: bool,
+}
 
-// Stands for the answer of a call that is under way.
-pub const UNDER_WAY: u32 = 32;
-
-// Stands for a start that is refused since a call is under way.
-pub const BUSY: u32 = 33;
-
-// Stands for the answer of a call that is not begun.
-pub const STARTED: u32 = 34;
-
-pub const ORDERS: usize = 35;
-
-pub const STEPS: usize = 36;
-
-pub const CHANGED: usize = 37;
-
-pub const OTHERS: usize = 38;
-
-pub const QUERIES: usize = 39;
-
-pub const REPEATED: usize = 40;
-
-pub const DIGEST: usize = 41;
-
-// What differed in the order at hand.
-pub const DIFFERS: usize = 42;
-
-// Stands for a start that is refused since it is of a list that is not lent.
-pub const MISSING: u32 = 43;
-
-// How far the slots of the answers from 32 on lie behind their numbers.
-pub const BEHIND: u32 = 16;
-
-// What may differ, a bit each.
-pub const STEP: u32 = 1;
-
-pub const RUN: u32 = 2;
-
-pub const MEMORY: u32 = 4;
-
-// The slot of a status.
-pub fn number(status: Status) -> u32 {
-    let number = status.number();
-    match number {
-        Number::Of(n) => behind(n as u32),
-        Number::Without => UNDER_WAY,
+impl fmt::Display for Differs {
+    fn fmt<W: fmt::Write>(&self, f: &mut fmt::Formatter<W>) -> fmt::Result {
+        let names = [
+            (self.step, "step"),
+            (self.run, "run"),
+            (self.memory, "memory"),
+        ];
+        let mut before = "";
+        for (differs, name) in names {
+            if differs {
+                write!(f, "{before}{name}")?;
+                before = ", ";
+            }
+        }
+        Ok(())
     }
 }
 
-fn behind(number: u32) -> u32 {
-    if number < 32 {
-        return number;
+#[derive(Clone, Copy)]
+pub struct Tally {
+    orders: u32,
+    steps: u32,
+    // Steps that met another length.
+    changed: u32,
+    // Starts that met a call under way.
+    others: u32,
+    // Starts of a list without it.
+    missing: u32,
+    queries: u32,
+    repeated: u32,
+    // Orders by the number of the answer that ended them.
+    ended: [u32; 34],
+    under_way: u32,
+    digest: u32,
+    // In the order at hand.
+    pub differs: Differs,
+}
+
+impl Tally {
+    pub fn new() -> Tally {
+        Tally {
+            orders: 0,
+            steps: 0,
+            changed: 0,
+            others: 0,
+            missing: 0,
+            queries: 0,
+            repeated: 0,
+            ended: [0; 34],
+            under_way: 0,
+            digest: 0,
+            differs: Differs::default(),
+        }
     }
-    std::num::wrapping_add_u32(number, BEHIND)
-}
 
-pub fn number_of(answer: Answer) -> u32 {
-    match answer {
-        Answer::Given(status) => number(status),
-        Answer::Busy => BUSY,
-        Answer::ListMissing => MISSING,
+    // Something seen goes into the digest.
+    pub fn note(&mut self, word: u32) {
+        self.digest = mix(self.digest, word);
+    }
+
+    // A turn that is done: whether it went right, its answer, and what the driver says after it, with the right
+    // length of data and with another one.
+    pub fn turn(
+        &mut self,
+        turn: Turn,
+        answer: Result<Status, StartRefused>,
+        after: Turn,
+        other: Result<Option<Due>, LentLengthChanged>,
+        log: &[u32],
+    ) {
+        let told = after.told;
+        if !turn.is_right(answer, told, log) || !is_untold(told.status, other) {
+            self.differs.step = true;
+        }
+        self.note(mix(
+            mix(digests::of_answer(answer), after.digest()),
+            digests::of_query(other),
+        ));
+        self.queries = self.queries.wrapping_add(1);
+        self.count(turn);
+    }
+
+    fn count(&mut self, turn: Turn) {
+        let count = match (turn.expected, turn.told.status, turn.act) {
+            (Expected::Start, _, _) => &mut self.orders,
+            (_, _, Act::Missing) => &mut self.missing,
+            (_, Status::Going, Act::Step) => &mut self.steps,
+            (_, Status::Going, Act::Aside) => &mut self.changed,
+            (_, Status::Going, Act::Begin) => &mut self.others,
+            _ => &mut self.repeated,
+        };
+        *count = count.wrapping_add(1);
+    }
+
+    // A start of a list that is not lent, before any other.
+    pub fn missed(&mut self, answer: Result<Status, StartRefused>) {
+        if answer != Err(StartRefused::ListMissing) {
+            self.differs.step = true;
+        }
+        self.missing = self.missing.wrapping_add(1);
+    }
+
+    // An order is left, ended or not. A list that was refused has the place for which it was.
+    pub fn ended(&mut self, progress: Progress) {
+        match progress.status.number() {
+            None => self.under_way = self.under_way.wrapping_add(1),
+            Some(number) => {
+                if let Some(orders) = self.ended.get_mut(number as usize) {
+                    *orders = orders.wrapping_add(1);
+                }
+            }
+        }
+        self.note(Summary::from(progress).digest());
+        if let Gives::Place(place) = progress.gives {
+            self.note(place as u32);
+        }
     }
 }
 
-pub fn count(tally: &mut [u32; SLOTS], slot: usize) {
-    if slot < SLOTS {
-        tally[slot] = std::num::wrapping_add_u32(tally[slot], 1);
+impl fmt::Display for Tally {
+    fn fmt<W: fmt::Write>(&self, f: &mut fmt::Formatter<W>) -> fmt::Result {
+        write!(f, "orders {}, steps {}", self.orders, self.steps)?;
+        write!(
+            f,
+            ", other lengths {}, other starts {}",
+            self.changed, self.others
+        )?;
+        // Only of a list.
+        if 0 < self.missing {
+            write!(f, ", lists missing {}", self.missing)?;
+        }
+        write!(
+            f,
+            ", queries {}, repeated {}, ended",
+            self.queries, self.repeated
+        )?;
+        for (number, orders) in self.ended.iter().enumerate() {
+            if 0 < *orders {
+                write!(f, " {number}:{orders}")?;
+            }
+        }
+        write!(
+            f,
+            ", under way {}, digest {:08X}",
+            self.under_way, self.digest
+        )
     }
 }
 
-// Something seen goes into the digest.
-pub fn note(tally: &mut [u32; SLOTS], word: u32) {
-    tally[DIGEST] = memory::mix(tally[DIGEST], word);
-}
-
-pub fn expect(tally: &mut [u32; SLOTS], what: u32, holds: bool) {
-    if !holds {
-        tally[DIFFERS] = tally[DIFFERS] | what;
-    }
-}
-
-// A turn that is done: whether it went right, its answer, and what the driver says after it.
-pub fn turn(
-    tally: &mut [u32; SLOTS],
-    turn: Turn,
-    right: bool,
-    given: u32,
-    after: Turn,
-    other: u32,
-) {
-    expect(tally, STEP, right);
-    expect(tally, STEP, judge::is_untold(after, other));
-    note(tally, memory::mix(memory::mix(given, told(after)), other));
-    count(tally, QUERIES);
-    count(tally, slot(turn));
-}
-
-// By what is expected of it.
-fn slot(turn: Turn) -> usize {
-    let expected = turn.expected;
-    match expected {
-        25 => CHANGED,
-        BUSY => OTHERS,
-        STARTED => ORDERS,
-        MISSING => MISSING as usize,
-        _ => stepped(turn),
-    }
-}
-
-fn stepped(turn: Turn) -> usize {
-    if turn.answer == UNDER_WAY {
-        STEPS
+// With another length of data a query is told so, or nothing of a call that has ended.
+fn is_untold(status: Status, other: Result<Option<Due>, LentLengthChanged>) -> bool {
+    if status == Status::Going {
+        matches!(other, Err(LentLengthChanged))
     } else {
-        REPEATED
+        matches!(other, Ok(None))
     }
 }
 
-// What the driver says before a turn.
-pub fn told(turn: Turn) -> u32 {
-    let h = memory::mix(memory::mix(turn.answer, turn.first), turn.value);
-    memory::mix_count(
-        memory::mix_count(memory::mix_count(h, turn.used), turn.replies),
-        turn.counted,
-    )
+// The answer so far, with the last three replies, of which the value of a call that is done is made.
+#[derive(Clone, Copy, PartialEq, Eq)]
+pub struct Summary {
+    status: Status,
+    counts: Counts,
+    last_replies: [u32; 3],
 }
 
-// The answer so far, with the replies of which the value of a call that is done is made.
-pub fn summary(progress: Progress) -> u32 {
-    let status = progress.status;
-    let h = memory::mix_count(
-        memory::mix_count(number(status), progress.used),
-        progress.replies,
-    );
-    let h = memory::mix(memory::mix_count(h, progress.counted), progress.older);
-    memory::mix(memory::mix(h, progress.old), progress.last)
-}
-
-pub fn ended(tally: &mut [u32; SLOTS], progress: Progress) {
-    let status = progress.status;
-    count(tally, number(status) as usize);
-    note(tally, summary(progress));
-    placed(tally, progress);
-}
-
-// The place that a list was refused for.
-fn placed(tally: &mut [u32; SLOTS], progress: Progress) {
-    let gives = progress.gives;
-    match gives {
-        Gives::Place(_) => note(tally, progress.place() as u32),
-        _ => {}
+impl From<Progress> for Summary {
+    fn from(progress: Progress) -> Summary {
+        Summary {
+            status: progress.status,
+            counts: progress.into(),
+            last_replies: [progress.older, progress.old, progress.last],
+        }
     }
 }
 
-// A start of a list that is not lent, before any other.
-pub fn missed(tally: &mut [u32; SLOTS], answer: Answer) {
-    expect(tally, STEP, number_of(answer) == MISSING);
-    count(tally, MISSING as usize);
+impl Summary {
+    fn digest(self) -> u32 {
+        let counts = self.counts.mixed_into(digests::of_status(self.status));
+        self.last_replies.into_iter().fold(counts, mix)
+    }
 }

@@ -1,188 +1,148 @@
 // The turns of an order: right steps, and between them steps and starts that must change nothing.
-use crate::call::ERASE_SECTORS;
-use crate::lengths::Lengths;
-use crate::memory::{BYTES, LOG, UNTOUCHED, UNTOUCHED_BYTE};
-use crate::order::{Order, TURNS};
-use crate::tally::SLOTS;
+use crate::memory::{BYTES, LOG, Memory};
+use crate::order::Order;
+use crate::tally::Tally;
 use crate::turn::{Act, Turn};
-use crate::{judge, lengths, list, memory, order, random, tally, turn};
-use qspi_calls::start;
-use qspi_driver::state;
-use qspi_driver::state::{Acted, ListActed, Progress, SectorList, State};
-use qspi_operation::{Asked, Reply};
+use crate::{lengths, random};
+use qspi_driver::QspiSpansionS25Fl256SIoMode;
+use qspi_driver::state::{Progress, StartRefused};
+use qspi_script::Status;
+use std::alloc::{AllocError, Global};
+use trial_calls::call::Call;
+use trial_calls::memory::front;
 
-// An order over this memory, of which a right step is lent the fronts.
+// How an order was left, under way or ended, and its memory then.
+#[derive(Drop)]
+pub struct Left {
+    pub progress: Progress,
+    pub memory: Memory,
+}
+
+// An order over this data. A right step is lent the fronts of its memory.
 pub fn walk(
-    order: Order,
+    alloc: Global,
+    order: &Order,
     data: &[u8],
-    bytes: &mut [u8],
-    words: &mut [u32],
-    tally: &mut [u32; SLOTS],
-) -> Progress {
-    let mut list = list::drawn(order);
-    let mut acted = begun(order, &list, tally);
-    let mut turn = turned(turn::start(order), order, acted, data, words, tally);
+    tally: &mut Tally,
+) -> Result<Left, AllocError> {
+    let mut memory = Memory::untouched();
+    let mut driver = QspiSpansionS25Fl256SIoMode::idle();
+    let idle = driver.answer();
+    let answer = begin(alloc, order, &mut driver, tally)?;
+    let mut turn = turned(
+        Turn::first(order, idle),
+        order,
+        answer,
+        &driver,
+        data,
+        &memory.log,
+        tally,
+    );
+    // No `for`: a turn may cut down how many are left.
     let mut turns = order.turns;
     while 0 < turns {
-        turns = memory::least(spared(turn), turns - 1);
-        list::change(&mut list, turn.draw);
-        acted = act(turn, order, acted, data, bytes, words, tally);
-        turn = turned(turn, order, acted, data, words, tally);
+        turns = turn.spared().min(turns - 1);
+        let answer = match turn.act {
+            Act::Step => {
+                let log = &mut memory.log[..order.lent.log.min(LOG)];
+                driver.step(
+                    front(data, order.lent.data),
+                    &mut memory.buffer[..order.lent.buffer.min(BYTES)],
+                    log,
+                    turn.reply(),
+                )
+            }
+            Act::Aside => aside(turn, order, &mut driver, data, tally),
+            Act::Begin => begin_other(alloc, &Order::any(turn.draw), &mut driver)?,
+            Act::Missing => {
+                let list = Order::drawn(Call::EraseSectors, turn.draw);
+                driver.start(list.start(alloc)?)
+            }
+        };
+        turn = turned(turn, order, answer, &driver, data, &memory.log, tally);
     }
-    state::answer_so_far(acted.state)
+    Ok(Left {
+        progress: driver.answer(),
+        memory,
+    })
 }
 
-// The call is begun where none is under way; one of a list first without it.
-fn begun(order: Order, list: &[u32], tally: &mut [u32; SLOTS]) -> ListActed {
-    let idle = State {
-        op: start::read_page_read(0, 0, 0),
-    };
-    let kept = SectorList {
-        numbers: [UNTOUCHED_BYTE; 256],
-    };
-    let acted = state::begin(idle, order::start(order));
-    if order.call != ERASE_SECTORS {
-        return beside(acted, kept);
+// The call is begun where none is under way; one of a list first without it. Order and driver stay apart: the
+// one is only read, and the other is stepped while it is.
+fn begin(
+    alloc: Global,
+    order: &Order,
+    driver: &mut QspiSpansionS25Fl256SIoMode,
+    tally: &mut Tally,
+) -> Result<Result<Status, StartRefused>, AllocError> {
+    let answer = driver.start(order.start(alloc)?);
+    if order.call != Call::EraseSectors {
+        return Ok(answer);
     }
-    let answer = acted.answer;
-    tally::missed(tally, answer);
-    state::begin_list(acted.state, kept, memory::front(list, order.b), order.room)
+    tally.missed(answer);
+    begin_list(alloc, order, driver)
 }
 
-// A start or a step of a driver that keeps this list.
-fn beside(acted: Acted, list: SectorList) -> ListActed {
-    let state = acted.state;
-    let answer = acted.answer;
-    ListActed {
-        state,
-        list,
-        answer,
-    }
+// The list is given up at once: no step is lent it again.
+fn begin_list(
+    alloc: Global,
+    order: &Order,
+    driver: &mut QspiSpansionS25Fl256SIoMode,
+) -> Result<Result<Status, StartRefused>, AllocError> {
+    Ok(driver.erase_sectors(&order.list(alloc)?, order.lent.log))
 }
 
-// A call that has ended is given a few turns more.
-fn spared(turn: Turn) -> usize {
-    if turn.answer == tally::UNDER_WAY {
-        return TURNS;
+// The start of another call; of a list with it or without.
+fn begin_other(
+    alloc: Global,
+    order: &Order,
+    driver: &mut QspiSpansionS25Fl256SIoMode,
+) -> Result<Result<Status, StartRefused>, AllocError> {
+    if order.call == Call::EraseSectors && random::is_heads(order.draw) {
+        begin_list(alloc, order, driver)
+    } else {
+        Ok(driver.start(order.start(alloc)?))
     }
-    random::number(turn.draw) / 2 % 5
 }
 
 // What the driver says after a turn. It is asked for the access that is due with another length of data too.
 fn turned(
     turn: Turn,
-    order: Order,
-    acted: ListActed,
+    order: &Order,
+    answer: Result<Status, StartRefused>,
+    driver: &QspiSpansionS25Fl256SIoMode,
     data: &[u8],
-    words: &[u32],
-    tally: &mut [u32; SLOTS],
+    log: &[u32],
+    tally: &mut Tally,
 ) -> Turn {
-    let answer = acted.answer;
-    let state = acted.state;
-    let asked = due(acted, data, order.data);
-    let length = lengths::other(order.data, random::number(turn.draw) / 128);
-    let other = turn::first_word(due(acted, data, length));
-    let after = turn::next(turn, order, state::answer_so_far(state), asked);
-    let given = tally::number_of(answer);
-    let right = judge::is_right(turn, after, given, words);
-    tally::turn(tally, turn, right, given, after, other);
+    let length = order.lent.data;
+    let other = lengths::other(length, random::number(turn.draw) / 128);
+    let due = driver.due(front(data, length));
+    let due_otherwise = driver.due(front(data, other));
+    let after = turn.next(order, driver.answer(), due);
+    tally.turn(turn, answer, after, due_otherwise, log);
     after
-}
-
-// The access that is due with so much data.
-fn due(acted: ListActed, data: &[u8], length: usize) -> Asked {
-    let list = acted.list;
-    let numbers = list.numbers;
-    state::due(acted.state, &numbers, memory::front_bytes(data, length))
-}
-
-// What is done in a turn.
-fn act(
-    turn: Turn,
-    order: Order,
-    before: ListActed,
-    data: &[u8],
-    bytes: &mut [u8],
-    words: &mut [u32],
-    tally: &mut [u32; SLOTS],
-) -> ListActed {
-    let act = turn.act;
-    match act {
-        Act::Step => {
-            return lend(
-                lengths::right(order),
-                turn::reply(turn),
-                before,
-                data,
-                bytes,
-                words,
-            );
-        }
-        Act::Aside => return aside(turn, order, before, data, tally),
-        Act::Begin => return other(order::any(turn.draw), before),
-        Act::Missing => return without_list(order::drawn(ERASE_SECTORS, turn.draw), before),
-    }
-}
-
-// The start of another call; of a list with it or without.
-fn other(order: Order, before: ListActed) -> ListActed {
-    if order.call == ERASE_SECTORS {
-        if order.draw / 0x100_0000 % 2 == 1 {
-            let list = list::drawn(order);
-            let lent = memory::front(&list, order.b);
-            return state::begin_list(before.state, before.list, lent, order.room);
-        }
-    }
-    without_list(order, before)
-}
-
-fn without_list(order: Order, before: ListActed) -> ListActed {
-    beside(state::begin(before.state, order::start(order)), before.list)
 }
 
 // A step that is lent memory of its own, which is left alone.
 fn aside(
     turn: Turn,
-    order: Order,
-    before: ListActed,
+    order: &Order,
+    driver: &mut QspiSpansionS25Fl256SIoMode,
     data: &[u8],
-    tally: &mut [u32; SLOTS],
-) -> ListActed {
-    let mut bytes = [UNTOUCHED_BYTE; BYTES];
-    let mut words = [UNTOUCHED; LOG];
-    let acted = lend(
-        lengths::others(order, turn.draw),
-        turn::reply(turn),
-        before,
-        data,
-        &mut bytes,
-        &mut words,
+    tally: &mut Tally,
+) -> Result<Status, StartRefused> {
+    let mut memory = Memory::untouched();
+    let lent = lengths::others(order.lent, turn.draw);
+    let log = &mut memory.log[..lent.log.min(LOG)];
+    let answer = driver.step(
+        front(data, lent.data),
+        &mut memory.buffer[..lent.buffer.min(BYTES)],
+        log,
+        turn.reply(),
     );
-    tally::expect(tally, tally::MEMORY, memory::bytes_untouched(&bytes));
-    tally::expect(tally, tally::MEMORY, memory::untouched(&words, 0));
-    acted
-}
-
-// A step that is lent the fronts of these, and the list that is kept.
-fn lend(
-    lent: Lengths,
-    reply: Reply,
-    before: ListActed,
-    data: &[u8],
-    bytes: &mut [u8],
-    words: &mut [u32],
-) -> ListActed {
-    let buffer = memory::least(lent.buffer, bytes.len());
-    let log = memory::least(lent.log, words.len());
-    let list = before.list;
-    let numbers = list.numbers;
-    let acted = state::step(
-        before.state,
-        &numbers,
-        memory::front_bytes(data, lent.data),
-        &mut bytes[..buffer],
-        &mut words[..log],
-        reply,
-    );
-    beside(acted, list)
+    if memory != Memory::untouched() {
+        tally.differs.memory = true;
+    }
+    answer
 }

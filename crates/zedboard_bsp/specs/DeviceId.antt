@@ -1,23 +1,18 @@
 -- The ids that RDID returns, after the Rust file `zedboard-bsp/src/qspi_spansion.rs`, and refusal 11 of document 01: "byte not listed in
 -- the Rust; the byte is returned".
-use Rattle.std.specs.Prelude.{ℕ, ◌/◌, ◌%◌, Bool, false, cond, ◌||◌, List, [], ◌∷◌, ◌++◌, eqb, take, drop}
+use Rattle.std.specs.Prelude.{ℕ, ◌/◌, ◌%◌, Bool, false, cond, ◌||◌, List, [], ◌∷◌, ◌++◌, eqb, take, drop, Result, Ok, Err}
 use Rattle.zynq7000.specs.Number.{Answer, accepted, refused_with}
 use Rattle.zynq7000.specs.Number as number_of_lem
 use Rattle.zedboard_bsp.specs.Words.{bytes_of}
 use Rattle.zedboard_bsp.specs.declared.qspi_spansion.device_id.BaseDeviceId.{BaseDeviceId}
 use Rattle.zedboard_bsp.specs.declared.qspi_spansion.device_id.ExtendedDeviceId.{ExtendedDeviceId}
+use Rattle.zedboard_bsp.specs.declared.qspi_spansion.device_id.UnknownCode.{UnknownCode}
 use Rattle.zedboard_bsp.specs.declared.qspi_spansion.device_id.MemoryInterfaceType.{MemoryInterfaceType}
 use Rattle.zedboard_bsp.specs.declared.qspi_spansion.device_id.MemoryInterfaceType.TheVariants as interface
-use Rattle.zedboard_bsp.specs.declared.qspi_spansion.device_id.MemoryInterfaceTypeCode.{MemoryInterfaceTypeCode}
-use Rattle.zedboard_bsp.specs.declared.qspi_spansion.device_id.MemoryInterfaceTypeCode.TheVariants as interface-answer
 use Rattle.zedboard_bsp.specs.declared.qspi_spansion.device_id.Density.{Density}
 use Rattle.zedboard_bsp.specs.declared.qspi_spansion.device_id.Density.TheVariants as density
-use Rattle.zedboard_bsp.specs.declared.qspi_spansion.device_id.DensityCode.{DensityCode}
-use Rattle.zedboard_bsp.specs.declared.qspi_spansion.device_id.DensityCode.TheVariants as density-answer
 use Rattle.zedboard_bsp.specs.declared.qspi_spansion.device_id.SectorArchictecture.{SectorArchictecture}
 use Rattle.zedboard_bsp.specs.declared.qspi_spansion.device_id.SectorArchictecture.TheVariants as sector
-use Rattle.zedboard_bsp.specs.declared.qspi_spansion.device_id.SectorArchictectureCode.{SectorArchictectureCode}
-use Rattle.zedboard_bsp.specs.declared.qspi_spansion.device_id.SectorArchictectureCode.TheVariants as sector-answer
 
 -- ---- the bytes of an id, in the order that the device sends them
 
@@ -52,17 +47,17 @@ sector_code sector.Uniform = 0x00
 sector_code sector.Hybrid = 0x01
 
 -- an answer in 01's terms: 0 and the code, or 11 and the byte
-abbrev pub interface_answer : MemoryInterfaceTypeCode → Answer
-interface_answer (interface-answer.Known t) = accepted (interface_code t ∷ [])
-interface_answer (interface-answer.UnknownCode b) = refused_with number_of_lem.UnknownCode (b ∷ [])
+abbrev pub interface_answer : Result MemoryInterfaceType UnknownCode → Answer
+interface_answer (Ok t) = accepted (interface_code t ∷ [])
+interface_answer (Err e) = refused_with number_of_lem.UnknownCode (e.0 ∷ [])
 
-abbrev pub density_answer : DensityCode → Answer
-density_answer (density-answer.Known d) = accepted (density_code d ∷ [])
-density_answer (density-answer.UnknownCode b) = refused_with number_of_lem.UnknownCode (b ∷ [])
+abbrev pub density_answer : Result Density UnknownCode → Answer
+density_answer (Ok d) = accepted (density_code d ∷ [])
+density_answer (Err e) = refused_with number_of_lem.UnknownCode (e.0 ∷ [])
 
-abbrev pub sector_answer : SectorArchictectureCode → Answer
-sector_answer (sector-answer.Known s) = accepted (sector_code s ∷ [])
-sector_answer (sector-answer.UnknownCode b) = refused_with number_of_lem.UnknownCode (b ∷ [])
+abbrev pub sector_answer : Result SectorArchictecture UnknownCode → Answer
+sector_answer (Ok s) = accepted (sector_code s ∷ [])
+sector_answer (Err e) = refused_with number_of_lem.UnknownCode (e.0 ∷ [])
 
 abbrev pub is_listed : List ℕ → ℕ → Bool
 is_listed [] b = false

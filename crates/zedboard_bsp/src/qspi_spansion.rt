@@ -6,6 +6,7 @@ ghost use Rattle.zynq7000.specs.Qspi.{lows, lowest};
 ghost use Rattle.zedboard_bsp.specs.Registers.{field_value};
 ghost use Rattle.zedboard_bsp.specs.Spansion.{command_byte, status_table, config_table, programming_error, erase_error, block_protection, write_in_progress};
 
+use zynq7000::bits;
 use zynq7000_hal::qspi::{OperatingMode, QspiDeviceCombination, QspiVendor};
 
 pub mod device_id;
@@ -41,29 +42,29 @@ pub const QSPI_DEV_COMBINATION_REV_F: QspiDeviceCombination = QspiDeviceCombinat
 #[derive(Clone, Copy)]
 pub enum RegisterId {
     // WRR
-    WriteRegisters,
+    WriteRegisters = 0x01,
     // PP
-    PageProgram,
+    PageProgram = 0x02,
     // READ
-    Read,
+    Read = 0x03,
     // WRDI
-    WriteDisable,
+    WriteDisable = 0x04,
     // RDSR1
-    ReadStatus1,
+    ReadStatus1 = 0x05,
     // WREN
-    WriteEnable,
+    WriteEnable = 0x06,
     // RDSR2
-    ReadStatus2,
+    ReadStatus2 = 0x07,
     // FAST_READ
-    FastRead,
+    FastRead = 0x0B,
     // CLSR
-    ClearStatus,
+    ClearStatus = 0x30,
     // RDCR
-    ReadConfig,
+    ReadConfig = 0x35,
     // RDID
-    ReadId,
+    ReadId = 0x9F,
     // SE
-    SectorErase,
+    SectorErase = 0xD8,
 }
 
 impl RegisterId {
@@ -71,20 +72,7 @@ impl RegisterId {
     pub fn raw_value(self) -> u8
         ensures byte { result ≡ command_byte self }
     {
-        match self {
-            RegisterId::WriteRegisters => 0x01,
-            RegisterId::PageProgram => 0x02,
-            RegisterId::Read => 0x03,
-            RegisterId::WriteDisable => 0x04,
-            RegisterId::ReadStatus1 => 0x05,
-            RegisterId::WriteEnable => 0x06,
-            RegisterId::ReadStatus2 => 0x07,
-            RegisterId::FastRead => 0x0B,
-            RegisterId::ClearStatus => 0x30,
-            RegisterId::ReadConfig => 0x35,
-            RegisterId::ReadId => 0x9F,
-            RegisterId::SectorErase => 0xD8,
-        }
+        self as u8
     }
 }
 
@@ -106,7 +94,7 @@ impl StatusRegister1 {
     // WIP
     pub const WRITE_IN_PROGRESS: u32 = 0;
 
-    // The lowest bits of the fields, from bit 7 down.
+    // The lowest bits of the fields, from bit 7 down. As in `zynq7000`, each register lists its own constants.
     pub fn field_bits() -> [u32; 6]
         ensures table { result ≡ lows status_table }
     {
@@ -123,13 +111,13 @@ impl StatusRegister1 {
     pub fn programming_error(self) -> bool
         ensures bit { result ≡ is_set (lowest programming_error) self.0 }
     {
-        (self.0 >> Self::PROGRAMMING_ERROR) % 2 == 1
+        bits::is_set(self.0 as u32, Self::PROGRAMMING_ERROR)
     }
 
     pub fn erase_error(self) -> bool
         ensures bit { result ≡ is_set (lowest erase_error) self.0 }
     {
-        (self.0 >> Self::ERASE_ERROR) % 2 == 1
+        bits::is_set(self.0 as u32, Self::ERASE_ERROR)
     }
 
     pub fn block_protection(self) -> u8
@@ -141,7 +129,7 @@ impl StatusRegister1 {
     pub fn write_in_progress(self) -> bool
         ensures bit { result ≡ is_set (lowest write_in_progress) self.0 }
     {
-        (self.0 >> Self::WRITE_IN_PROGRESS) % 2 == 1
+        bits::is_set(self.0 as u32, Self::WRITE_IN_PROGRESS)
     }
 }
 

@@ -8,11 +8,11 @@ use native.Mathlib.Omega.{arith}
 use lib.Dec.{eqb, ltb}
 use lib.ListN.{length}
 use borrow.Author.Tests.{lt-ltb, le-ltb, eq-eqb, ne_eqb, ltb-true, ltb-false, eqb-true, eqb-false}
+use Rattle.std.specs.Prelude.{Ok, Err}
 use Rattle.zynq7000.specs.Qspi.{offset_of}
-use Rattle.zynq7000.specs.Access.{offset_in, first_word, value_word, encode, record_of_words, Aligned}
+use Rattle.zynq7000.specs.Access.{offset_in, first_word, value_word, encode, record_of_words, bad_log, Aligned}
 use Rattle.zynq7000.specs.declared.qspi.Access.{Access}
 use Rattle.zynq7000.specs.declared.qspi.Access.TheVariants.{Read, Write}
-use Rattle.zynq7000.specs.declared.qspi.Record.TheVariants as record_of
 use Rattle.zynq7000.specs.declared.qspi.Register.{Register}
 use Rattle.zynq7000.specs.declared.qspi.Register.TheVariants as register
 
@@ -38,7 +38,7 @@ register_aligned register.TxData11 = record { fourth = refl; byte = omega arith 
 register_aligned register.LinearQspiConfig = record { fourth = refl; byte = omega arith }
 
 -- the words of an access are read as that access
-pub read_words_lem : (a : Access) → Aligned (offset_in a) → record_of_words (first_word a) (value_word a) ≡ record_of.Access a
+pub read_words_lem : (a : Access) → Aligned (offset_in a) → record_of_words (first_word a) (value_word a) ≡ Ok a
 read_words_lem (Write o v) h =
     let e : o % 4 ≡ 0 = h.fourth in
     let l : o < 256 = h.byte in
@@ -52,10 +52,10 @@ read_words_lem (Read o v) h =
 
 -- what two words are, by the tests of rule 13
 data Cases (first v : ℕ) : Type 0 where
-  above : 0x1FC < first → record_of_words first v ≡ record_of.BadLog → Cases first v
-  odd : (first % 4 ≡ 0 → ⊥) → record_of_words first v ≡ record_of.BadLog → Cases first v
-  write : first % 4 ≡ 0 → first < 0x100 → record_of_words first v ≡ record_of.Access (Write first v) → Cases first v
-  read : first % 4 ≡ 0 → 0x100 ≤ first → first ≤ 0x1FC → record_of_words first v ≡ record_of.Access (Read (first - 0x100) v) → Cases first v
+  above : 0x1FC < first → record_of_words first v ≡ Err bad_log → Cases first v
+  odd : (first % 4 ≡ 0 → ⊥) → record_of_words first v ≡ Err bad_log → Cases first v
+  write : first % 4 ≡ 0 → first < 0x100 → record_of_words first v ≡ Ok (Write first v) → Cases first v
+  read : first % 4 ≡ 0 → 0x100 ≤ first → first ≤ 0x1FC → record_of_words first v ≡ Ok (Read (first - 0x100) v) → Cases first v
 
 cases : (first v : ℕ) → Cases first v
 cases first v = go (ltb 0x1FC first) (eqb (first % 4) 0) (ltb first 0x100) refl refl refl
@@ -72,13 +72,13 @@ pub record FromWords (first v : ℕ) (a : Access) : Type 0 where
   pub value_is : value_word a ≡ v
   pub aligned : Aligned (offset_in a)
 
-pub write_record : (first v : ℕ) (a : Access) → record_of_words first v ≡ record_of.Access a → FromWords first v a
+pub write_record : (first v : ℕ) (a : Access) → record_of_words first v ≡ Ok a → FromWords first v a
 write_record first v a h = go (cases first v)
   where
-    same : (b : Access) → record_of_words first v ≡ record_of.Access b → a ≡ b
+    same : (b : Access) → record_of_words first v ≡ Ok b → a ≡ b
     same b e = cc
 
-    no : record_of_words first v ≡ record_of.BadLog → FromWords first v a
+    no : record_of_words first v ≡ Err bad_log → FromWords first v a
     no e = let z : ◌≡◌ {A = ℕ} 0 1 = cc in absurd (omega arith)
 
     go : Cases first v → FromWords first v a
@@ -91,22 +91,22 @@ write_record first v a h = go (cases first v)
         (record { first_is = omega arith; value_is = refl; aligned = record { fourth = omega arith; byte = omega arith } })
 
 -- rule 13 of two words, precisely when
-pub bad_when : (first v : ℕ) → record_of_words first v ≡ record_of.BadLog ↔ (0x1FC < first) ⊎ (first % 4 ≡ 0 → ⊥)
+pub bad_when : (first v : ℕ) → record_of_words first v ≡ Err bad_log ↔ (0x1FC < first) ⊎ (first % 4 ≡ 0 → ⊥)
 bad_when first v = (to (cases first v), from)
   where
-    never : (a : Access) → record_of_words first v ≡ record_of.Access a → record_of_words first v ≡ record_of.BadLog → ⊥
+    never : (a : Access) → record_of_words first v ≡ Ok a → record_of_words first v ≡ Err bad_log → ⊥
     never a p q = let z : ◌≡◌ {A = ℕ} 0 1 = cc in omega arith
 
-    to : Cases first v → record_of_words first v ≡ record_of.BadLog → (0x1FC < first) ⊎ (first % 4 ≡ 0 → ⊥)
+    to : Cases first v → record_of_words first v ≡ Err bad_log → (0x1FC < first) ⊎ (first % 4 ≡ 0 → ⊥)
     to (above p e) q = inl p
     to (odd p e) q = inr p
     to (write f l e) q = absurd (never (Write first v) e q)
     to (read f l u e) q = absurd (never (Read (first - 0x100) v) e q)
 
-    from : (0x1FC < first) ⊎ (first % 4 ≡ 0 → ⊥) → record_of_words first v ≡ record_of.BadLog
+    from : (0x1FC < first) ⊎ (first % 4 ≡ 0 → ⊥) → record_of_words first v ≡ Err bad_log
     from (inl p) = simp (lt-ltb 0x1FC first p)
     from (inr p) = bad (ltb 0x1FC first) refl
       where
-        bad : (b : Bool) → ltb 0x1FC first ≡ b → record_of_words first v ≡ record_of.BadLog
+        bad : (b : Bool) → ltb 0x1FC first ≡ b → record_of_words first v ≡ Err bad_log
         bad true e = simp e
         bad false e = simp (e, ne_eqb (first % 4) 0 p)

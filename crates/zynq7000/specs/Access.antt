@@ -1,9 +1,8 @@
 -- An access in a log: document 01, "Log and printer". "An access is two 32-bit words: offset (plus 100 hex for a read), then value."
-use Rattle.std.specs.Prelude.{ℕ, ◌+◌, ◌-◌, ◌%◌, ◌<◌, ◌≡◌, cond, List, [], ◌∷◌, eqb, ltb}
+use Rattle.std.specs.Prelude.{ℕ, ◌+◌, ◌-◌, ◌%◌, ◌<◌, ◌≡◌, cond, List, [], ◌∷◌, eqb, ltb, Result, Ok, Err}
 use Rattle.zynq7000.specs.declared.qspi.Access.{Access}
 use Rattle.zynq7000.specs.declared.qspi.Access.TheVariants.{Read, Write}
-use Rattle.zynq7000.specs.declared.qspi.Record.{Record}
-use Rattle.zynq7000.specs.declared.qspi.Record.TheVariants as record_of
+use Rattle.zynq7000.specs.declared.qspi.BadLog.{BadLog}
 
 abbrev pub offset_in : Access → ℕ
 offset_in (Read o v) = o
@@ -33,9 +32,12 @@ Loggable [] = Unit {0}
 Loggable (a ∷ l) = Aligned (offset_in a) × Loggable l
 
 -- rule 13: no access where the first word is above 1FC or not a multiple of 4
-abbrev pub record_of_words : ℕ → ℕ → Record
+abbrev pub bad_log : BadLog
+bad_log = record {}
+
+abbrev pub record_of_words : ℕ → ℕ → Result Access BadLog
 record_of_words first v =
-    cond (ltb 0x1FC first) record_of.BadLog
+    cond (ltb 0x1FC first) (Err bad_log)
     (cond (eqb (first % 4) 0)
-    (record_of.Access (cond (ltb first 0x100) (Write first v) (Read (first - 0x100) v)))
-    record_of.BadLog)
+    (Ok (cond (ltb first 0x100) (Write first v) (Read (first - 0x100) v)))
+    (Err bad_log))

@@ -1,5 +1,7 @@
 // One bit of a register word, by its number: bit 0 is the lowest. Crates above pass a number below
 // 32; `proofs/BitLaws.antt` shows that setting and clearing leave every other bit as it was.
+// The number has no type of its own: each is a constant of a register, by which words are shifted too,
+// so that a type would be taken apart at every use.
 ghost use Rattle.std.specs.Prelude.{◌≡◌, ◌*◌, ◌^◌, ◌≤◌, ◌<◌};
 ghost use Rattle.zynq7000.specs.Bits as spec;
 
@@ -16,7 +18,7 @@ pub fn put(word: u32, at: u32) -> u32
     requires { at < 32 }
     ensures word { result ≡ spec.put at word }
 {
-    if (word >> at) % 2 == 1 {
+    if is_set(word, at) {
         word
     } else {
         word + (1 << at)
@@ -28,7 +30,7 @@ pub fn clear(word: u32, at: u32) -> u32
     requires { at < 32 }
     ensures word { result ≡ spec.clear at word }
 {
-    if (word >> at) % 2 == 0 {
+    if !is_set(word, at) {
         word
     } else {
         word - (1 << at)

@@ -63,6 +63,8 @@ pub enum Register {
 }
 
 impl Register {
+    // The offsets stand once, as the constants that the crates above name; as discriminants they would have
+    // to be cast.
     pub fn offset(self) -> u8
         ensures offset { result ≡ offset_of self }
     {
@@ -86,18 +88,18 @@ impl Register {
 // Baud rate divisor register values.
 #[derive(Clone, Copy)]
 pub enum BaudRateDivisor {
-    _2,
-    _4,
-    _8,
-    _16,
-    _32,
-    _64,
-    _128,
-    _256,
+    _2 = 0,
+    _4 = 1,
+    _8 = 2,
+    _16 = 3,
+    _32 = 4,
+    _64 = 5,
+    _128 = 6,
+    _256 = 7,
 }
 
 impl BaudRateDivisor {
-    // What the reference clock is divided by.
+    // What the reference clock is divided by: a table of its own, as its codes are.
     pub fn divisor(self) -> u32
         ensures divisor { result ≡ divisor_of self }
     {
@@ -117,28 +119,19 @@ impl BaudRateDivisor {
     pub fn raw_value(self) -> u32
         ensures code { (result ≡ baud_code self) × (result < 8) }
     {
-        match self {
-            BaudRateDivisor::_2 => 0,
-            BaudRateDivisor::_4 => 1,
-            BaudRateDivisor::_8 => 2,
-            BaudRateDivisor::_16 => 3,
-            BaudRateDivisor::_32 => 4,
-            BaudRateDivisor::_64 => 5,
-            BaudRateDivisor::_128 => 6,
-            BaudRateDivisor::_256 => 7,
-        }
+        self as u32
     }
 }
 
 // Flash read instruction sent in linear addressing mode.
 #[derive(Clone, Copy)]
 pub enum InstructionCode {
-    Read,
-    FastRead,
-    FastReadDualOutput,
-    FastReadQuadOutput,
-    FastReadDualIo,
-    FastReadQuadIo,
+    Read = 0x03,
+    FastRead = 0x0B,
+    FastReadDualOutput = 0x3B,
+    FastReadQuadOutput = 0x6B,
+    FastReadDualIo = 0xBB,
+    FastReadQuadIo = 0xEB,
 }
 
 impl InstructionCode {
@@ -146,14 +139,7 @@ impl InstructionCode {
     pub fn raw_value(self) -> u32
         ensures byte { (result ≡ instruction_byte self) × (result < 256) }
     {
-        match self {
-            InstructionCode::Read => 0x03,
-            InstructionCode::FastRead => 0x0B,
-            InstructionCode::FastReadDualOutput => 0x3B,
-            InstructionCode::FastReadQuadOutput => 0x6B,
-            InstructionCode::FastReadDualIo => 0xBB,
-            InstructionCode::FastReadQuadIo => 0xEB,
-        }
+        self as u8 as u32
     }
 }
 
@@ -187,7 +173,8 @@ impl Config {
     // Must be 1 before using QSPI.
     pub const MODE_SELECT: u32 = 0;
 
-    // The lowest bits of the fields, from bit 31 down.
+    // The lowest bits of the fields, from bit 31 down. Each register lists its own constants, so that a trait
+    // would share no line of the lists, and only name them once more.
     pub fn field_bits() -> [u32; 12]
         ensures table { result ≡ lows config_table }
     {
@@ -340,12 +327,9 @@ pub struct LogWords {
     pub value: u32,
 }
 
-// What the two words of a log record are: an access, or none (refusal 13, BadLog).
-#[derive(Clone, Copy)]
-pub enum Record {
-    Access(Access),
-    BadLog,
-}
+// Two words that are no access (refusal 13).
+#[derive(Clone, Copy, Debug, PartialEq, Eq)]
+pub struct BadLog;
 
 impl Access {
     // The access as it stands in a log.
@@ -363,22 +347,18 @@ impl Access {
             },
         }
     }
-}
 
-impl Record {
     // What the two words of a log record are.
-    pub fn of_words(first: u32, value: u32) -> Record
+    pub fn of_words(first: u32, value: u32) -> Result<Access, BadLog>
         ensures record { result ≡ record_of_words first value }
     {
-        if 0x1FC < first {
-            return Record::BadLog;
-        }
-        if first % 4 != 0 {
-            return Record::BadLog;
+        if 0x1FC < first || first % 4 != 0 {
+            return Err(BadLog);
         }
         if first < 0x100 {
-            return Record::Access(Access::Write(first as u8, value));
+            Ok(Access::Write(first as u8, value))
+        } else {
+            Ok(Access::Read((first - 0x100) as u8, value))
         }
-        Record::Access(Access::Read((first - 0x100) as u8, value))
     }
 }

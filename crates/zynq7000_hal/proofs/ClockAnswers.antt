@@ -22,9 +22,8 @@ use Rattle.zynq7000_hal.specs.declared.qspi.BaudRateConfig.{BaudRateConfig}
 use Rattle.zynq7000_hal.specs.declared.qspi.BaudRateConfig.TheVariants.{WithLoopback, WithoutLoopback}
 use Rattle.zynq7000_hal.specs.declared.qspi.ClockCalculationError.{ClockCalculationError}
 use Rattle.zynq7000_hal.specs.declared.qspi.ClockCalculationError.TheVariants as error
-use Rattle.zynq7000_hal.specs.declared.qspi.ClockCalculation.{ClockCalculation}
 use Rattle.zynq7000_hal.specs.declared.qspi.ClockConfig.{ClockConfig}
-use Rattle.zynq7000_hal.specs.declared.qspi.ClockCalculation.TheVariants.{Config, Refused}
+use Rattle.std.specs.Prelude.{Result, Ok, Err}
 use Rattle.zynq7000_hal.proofs.ClockLaws.{round_positive, reference_target_zero, divisor_too_large, reference_clock_zero, below_cpu_clock, interface_target_zero, quotient_too_large, calculated, too_fast, loopback_target_zero, loopback_divisor_too_large, loopback_calculated}
 use Rattle.zynq7000_hal.proofs.LadderLaws.{Rung, rung, rung_of, rung_smallest, rung_on_target, smallest_power, only_smallest}
 
@@ -63,39 +62,39 @@ baud_back baud._256 = refl
 error_of : ℕ → ClockCalculationError
 error_of n = cond (eqb n 6) error.RefDivOutOfRange (cond (eqb n 7) error.RefClockSmallerThanCpu1xClock (cond (eqb n 8) error.ZeroClock (cond (eqb n 9) error.TargetTooFast error.BaudDivOutOfRange)))
 
-config_of_lem : List ℕ → ClockCalculation
-config_of_lem [] = Refused error.ZeroClock
-config_of_lem (s ∷ []) = Refused error.ZeroClock
-config_of_lem (s ∷ d ∷ []) = Refused error.ZeroClock
-config_of_lem (s ∷ d ∷ l ∷ []) = Refused error.ZeroClock
+config_of_lem : List ℕ → Result ClockConfig ClockCalculationError
+config_of_lem [] = Err error.ZeroClock
+config_of_lem (s ∷ []) = Err error.ZeroClock
+config_of_lem (s ∷ d ∷ []) = Err error.ZeroClock
+config_of_lem (s ∷ d ∷ l ∷ []) = Err error.ZeroClock
 config_of_lem (s ∷ d ∷ l ∷ b ∷ vs) =
-    Config (record {
+    Ok (record {
       src_sel = source_of_lem s;
       ref_clk_div = d;
       baud_rate_config = cond (eqb l 1) WithLoopback (WithoutLoopback (baud_of_lem b));
     })
 
-calculation_of : Answer → ClockCalculation
-calculation_of a = cond (eqb a.number 0) (config_of_lem a.values) (Refused (error_of a.number))
+calculation_of : Answer → Result ClockConfig ClockCalculationError
+calculation_of a = cond (eqb a.number 0) (config_of_lem a.values) (Err (error_of a.number))
 
 config_back : (s : SrcSelIo) (d : ℕ) (b : BaudRateConfig)
-    → calculation_of (answer_of (Config (record { src_sel = s; ref_clk_div = d; baud_rate_config = b })))
-    ≡ Config (record { src_sel = s; ref_clk_div = d; baud_rate_config = b })
+    → calculation_of (answer_of (Ok (record { src_sel = s; ref_clk_div = d; baud_rate_config = b })))
+    ≡ Ok (record { src_sel = s; ref_clk_div = d; baud_rate_config = b })
 unfolding calculation_of config_of_lem
 config_back s d WithLoopback = simp source_back
 config_back s d (WithoutLoopback b) = simp (source_back, baud_back)
 
-calculation_back : (r : ClockCalculation) → calculation_of (answer_of r) ≡ r
+calculation_back : (r : Result ClockConfig ClockCalculationError) → calculation_of (answer_of r) ≡ r
 unfolding calculation_of error_of
-calculation_back (Refused error.RefClockSmallerThanCpu1xClock) = refl
-calculation_back (Refused error.RefDivOutOfRange) = refl
-calculation_back (Refused error.ZeroClock) = refl
-calculation_back (Refused error.TargetTooFast) = refl
-calculation_back (Refused error.BaudDivOutOfRange) = refl
-calculation_back (Config c) = config_back c.src_sel c.ref_clk_div c.baud_rate_config
+calculation_back (Err error.RefClockSmallerThanCpu1xClock) = refl
+calculation_back (Err error.RefDivOutOfRange) = refl
+calculation_back (Err error.ZeroClock) = refl
+calculation_back (Err error.TargetTooFast) = refl
+calculation_back (Err error.BaudDivOutOfRange) = refl
+calculation_back (Ok c) = config_back c.src_sel c.ref_clk_div c.baud_rate_config
 
 -- equal numbers and values, equal answers: a contract that gives `answer_of r` fixes r
-pub answer_fixed : (a b : ClockCalculation) → answer_of a ≡ answer_of b → a ≡ b
+pub answer_fixed : (a b : Result ClockConfig ClockCalculationError) → answer_of a ≡ answer_of b → a ≡ b
 answer_fixed a b e = sym (calculation_back a) ∙ (ap calculation_of e ∙ calculation_back b)
 
 -- ---- precisely when
@@ -292,7 +291,7 @@ module _ (s : SrcSelIo) (c : Clocks) (t i : ℕ) where
   configured d = record { src_sel = s; ref_clk_div = rounded_up (source_clock s c) t; baud_rate_config = WithoutLoopback d }
 
   accepted_rung : (f : Sought s c t i) (q : quotient (source_clock s c) t i ≤ 256)
-      → calculate_answer s c t i ≡ answer_of (Config (configured (rung_of (quotient (source_clock s c) t i) q).divisor))
+      → calculate_answer s c t i ≡ answer_of (Ok (configured (rung_of (quotient (source_clock s c) t i) q).divisor))
   accepted_rung f q =
       let r = rung_of (quotient (source_clock s c) t i) q in
       by_divisor s c t i f q
@@ -300,41 +299,41 @@ module _ (s : SrcSelIo) (c : Clocks) (t i : ℕ) where
 
   -- what holds of each configuration that may be accepted holds of the one that `calculate` answers
   of_accepted : (P : ClockConfig → Type 0) → (Sought s c t i → (r : Rung (quotient (source_clock s c) t i)) → P (configured r.divisor))
-      → (k : ClockConfig) → answer_of (Config k) ≡ calculate_answer s c t i
+      → (k : ClockConfig) → answer_of (Ok k) ≡ calculate_answer s c t i
       → P k
   of_accepted P h k e =
       let w = (accepted_when s c t i).0 (ap (λ (a : Answer). a.number) (sym e)) in
       let r = rung_of (quotient (source_clock s c) t i) w.1 in
-      let f : Config k ≡ Config (configured r.divisor) = answer_fixed (Config k) (Config (configured r.divisor)) (e ∙ accepted_rung w.0 w.1) in
+      let f : Ok k ≡ Ok (configured r.divisor) = answer_fixed (Ok k) (Ok (configured r.divisor)) (e ∙ accepted_rung w.0 w.1) in
       subst P (sym (ap config f)) (h w.0 r)
     where
-      config : ClockCalculation → ClockConfig
-      config (Config k) = k
-      config (Refused e) = k
+      config : Result ClockConfig ClockCalculationError → ClockConfig
+      config (Ok k) = k
+      config (Err e) = k
 
   -- it is without loopback, and its reference clock is the one that 7 and the quotient are about
-  pub without_loopback : (k : ClockConfig) → answer_of (Config k) ≡ calculate_answer s c t i → k.baud_rate_config ≡ WithLoopback → ⊥
+  pub without_loopback : (k : ClockConfig) → answer_of (Ok k) ≡ calculate_answer s c t i → k.baud_rate_config ≡ WithLoopback → ⊥
   without_loopback = of_accepted (λ k. k.baud_rate_config ≡ WithLoopback → ⊥) λ f r e. omega (arith, ap flag e)
     where
       flag : BaudRateConfig → ℕ
       flag WithLoopback = 1
       flag (WithoutLoopback d) = 0
 
-  pub divided_clock_lem : (k : ClockConfig) → answer_of (Config k) ≡ calculate_answer s c t i → clock_of k c ≡ divided_clock (source_clock s c) t
+  pub divided_clock_lem : (k : ClockConfig) → answer_of (Ok k) ≡ calculate_answer s c t i → clock_of k c ≡ divided_clock (source_clock s c) t
   divided_clock_lem = of_accepted (λ k. clock_of k c ≡ divided_clock (source_clock s c) t) λ f r. refl
 
   -- its baud rate divisor is the smallest power of two from 2 to 256 that is not below the quotient
-  pub smallest_divisor : (k : ClockConfig) → answer_of (Config k) ≡ calculate_answer s c t i
+  pub smallest_divisor : (k : ClockConfig) → answer_of (Ok k) ≡ calculate_answer s c t i
       → SmallestPowerNotBelow (quotient (source_clock s c) t i) (divisor_in k)
   smallest_divisor = of_accepted (λ k. SmallestPowerNotBelow (quotient (source_clock s c) t i) (divisor_in k)) λ f r. rung_smallest (quotient (source_clock s c) t i) r.divisor r.on
 
   -- and keeps the interface clock on its target
-  pub on_target : (k : ClockConfig) → answer_of (Config k) ≡ calculate_answer s c t i → OnTarget (clock_of k c) i (divisor_in k)
+  pub on_target : (k : ClockConfig) → answer_of (Ok k) ≡ calculate_answer s c t i → OnTarget (clock_of k c) i (divisor_in k)
   on_target = of_accepted (λ k. OnTarget (clock_of k c) i (divisor_in k)) λ f r.
       rung_on_target (divided_clock (source_clock s c) t) i (omega (arith, f.interface)) r.divisor r.on
 
   -- rounding costs less than a hertz of the reference clock: over both divisors the source is below the target and a d-th of a hertz
-  pub before_rounding : (k : ClockConfig) → answer_of (Config k) ≡ calculate_answer s c t i
+  pub before_rounding : (k : ClockConfig) → answer_of (Ok k) ≡ calculate_answer s c t i
       → source_clock k.src_sel c < (i * divisor_in k + 1) * k.ref_clk_div
   before_rounding = of_accepted (λ k. source_clock k.src_sel c < (i * divisor_in k + 1) * k.ref_clk_div) λ f r.
       let n = source_clock s c in

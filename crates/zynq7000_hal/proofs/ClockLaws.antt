@@ -1,6 +1,7 @@
 -- Rounding up, and what the calculations answer test by test. Assumes nothing.
-use Prim.Native.Nat.{ℕ, ◌+◌, ◌-◌, ◌*◌, ◌/◌, ◌%◌, ◌<◌, ◌≤◌}
-use mathlib.Core.Path.{◌≡◌, ap, ◌∙◌}
+use Rattle.std.specs.Prelude.{min}
+use Prim.Native.Nat.{ℕ, zero, suc, ◌+◌, ◌-◌, ◌*◌, ◌/◌, ◌%◌, ◌<◌, ◌≤◌}
+use mathlib.Core.Path.{◌≡◌, refl, ap, ◌∙◌}
 use native.Mathlib.Omega.{arith}
 use native.Mathlib.Nat.{add-mul, one-mul, div-add-mod', mod-lt, div-mul-le_self, lt-div-mul-add, le-div_iff_mul-le, div-lt_iff_lt-mul, le-mul_of_pos_right}
 use lib.Arith.{digits_div}
@@ -26,6 +27,14 @@ round_up n d h e =
     let s : n + (d - 1) ≡ (n / d + 1) * d + (n % d - 1) =
     omega (arith, div-add-mod' n d, add-mul (n / d) 1 d, one-mul d, e) in
     ap (λ (x : ℕ). x / d) s ∙ digits_div (n / d + 1) (omega arith)
+
+-- the library's `div_ceil`
+pub div_ceil_rounds : (n d : ℕ) → 0 < d → n / d + min 1 (n % d) ≡ rounded_up n d
+div_ceil_rounds n d h = go (n % d) refl
+  where
+    go : (r : ℕ) → n % d ≡ r → n / d + min 1 (n % d) ≡ rounded_up n d
+    go zero e = rw e (omega (arith, round_exact n d h e))
+    go (suc r) e = rw e (omega (arith, round_up n d h (λ z. absurd (omega (arith, e, z)))))
 
 -- the least number of times d that reaches n
 pub round_reaches : (n d : ℕ) → 0 < d → n ≤ rounded_up n d * d

@@ -1,6 +1,6 @@
 -- The clock calculation: document 01, "What the input can bring on", rules 6 to 9 in the order that 01 gives for `calculate` and for
 -- loopback; the baud rate divisor and 31 are document 02's, U3.
-use Rattle.std.specs.Prelude.{ℕ, ◌+◌, ◌-◌, ◌*◌, ◌/◌, ◌^◌, ◌<◌, ◌≤◌, ◌≡◌, cond, List, [], ◌∷◌, eqb, leb, ltb}
+use Rattle.std.specs.Prelude.{ℕ, ◌+◌, ◌-◌, ◌*◌, ◌/◌, ◌^◌, ◌<◌, ◌≤◌, ◌≡◌, cond, List, [], ◌∷◌, eqb, leb, ltb, Result, Ok, Err}
 use Rattle.zynq7000.specs.Number.{Answer, Refusal, accepted, refused}
 use Rattle.zynq7000.specs.Number.{RefDivOutOfRange, RefClockSmallerThanCpu1xClock, ZeroClock, TargetTooFast, BaudDivOutOfRange}
 use Rattle.zynq7000.specs.Qspi.{divisor_of}
@@ -14,8 +14,6 @@ use Rattle.zynq7000_hal.specs.declared.qspi.BaudRateConfig.{BaudRateConfig}
 use Rattle.zynq7000_hal.specs.declared.qspi.BaudRateConfig.TheVariants.{WithLoopback, WithoutLoopback}
 use Rattle.zynq7000_hal.specs.declared.qspi.ClockCalculationError.{ClockCalculationError}
 use Rattle.zynq7000_hal.specs.declared.qspi.ClockCalculationError.TheVariants as error
-use Rattle.zynq7000_hal.specs.declared.qspi.ClockCalculation.{ClockCalculation}
-use Rattle.zynq7000_hal.specs.declared.qspi.ClockCalculation.TheVariants.{Config, Refused}
 use Rattle.zynq7000_hal.specs.declared.qspi.ClockConfig.{ClockConfig}
 
 -- ---- answers
@@ -38,9 +36,9 @@ baud_values WithLoopback = 1 ∷ 2 ∷ []
 baud_values (WithoutLoopback d) = 0 ∷ divisor_of d ∷ []
 
 -- a configuration's values: the source's code, the reference divisor, the baud rate
-abbrev pub answer_of : ClockCalculation → Answer
-answer_of (Config c) = accepted (source_code c.src_sel ∷ c.ref_clk_div ∷ baud_values c.baud_rate_config)
-answer_of (Refused e) = refused (refusal_of e)
+abbrev pub answer_of : Result ClockConfig ClockCalculationError → Answer
+answer_of (Ok c) = accepted (source_code c.src_sel ∷ c.ref_clk_div ∷ baud_values c.baud_rate_config)
+answer_of (Err e) = refused (refusal_of e)
 
 -- ---- the calculation
 

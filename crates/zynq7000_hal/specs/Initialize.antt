@@ -1,6 +1,6 @@
 -- The words of `initialize`: document 01, "Modules of the flash path", 3, and rule 12; the fields are those of specs/Qspi
 -- and specs/Slcr of zynq7000.
-use Rattle.std.specs.Prelude.{ℕ, Bool, cond, List, [], ◌∷◌, ltb}
+use Rattle.std.specs.Prelude.{ℕ, Bool, cond, List, [], ◌∷◌, ltb, Option, Some, None, Result, Ok, Err}
 use Rattle.zynq7000.specs.Number.{Answer, accepted, refused}
 use Rattle.zynq7000.specs.Number.{FieldTooWide}
 use Rattle.zynq7000.specs.Bits.{flag_value}
@@ -11,10 +11,8 @@ use Rattle.zynq7000_hal.specs.Clocks.{baud_of}
 use Rattle.zynq7000_hal.specs.declared.qspi.BaudRateConfig.{BaudRateConfig}
 use Rattle.zynq7000_hal.specs.declared.qspi.BaudRateConfig.TheVariants.{WithLoopback, WithoutLoopback}
 use Rattle.zynq7000_hal.specs.declared.qspi.ClockConfig.{ClockConfig}
-use Rattle.zynq7000_hal.specs.declared.qspi.LoopbackWrite.{LoopbackWrite}
-use Rattle.zynq7000_hal.specs.declared.qspi.LoopbackWrite.TheVariants.{Word, Nothing}
-use Rattle.zynq7000_hal.specs.declared.qspi.Initialization.{Initialization}
-use Rattle.zynq7000_hal.specs.declared.qspi.Initialization.TheVariants as initialization
+use Rattle.zynq7000_hal.specs.declared.qspi.InitializeWords.{InitializeWords}
+use Rattle.zynq7000_hal.specs.declared.qspi.FieldTooWide.{FieldTooWide as too_wide}
 
 -- the flash memory interface with 32-bit FIFO words, low byte first; start and chip select are not yet the program's
 abbrev pub initial_config : BaudRateDivisor → Bool → Bool → Config
@@ -39,14 +37,14 @@ abbrev pub loopback_words : BaudRateConfig → List ℕ
 loopback_words WithLoopback = loopback_word 1 0 0 ∷ []
 loopback_words (WithoutLoopback d) = []
 
-abbrev pub written_words : LoopbackWrite → List ℕ
-written_words (Word w) = w ∷ []
-written_words Nothing = []
+abbrev pub written_words : Option ℕ → List ℕ
+written_words (Some w) = w ∷ []
+written_words None = []
 
 -- the answer's values: the clock control word that is returned, the config word, and the loopback word where there is one
-abbrev pub initialized_answer : Initialization → Answer
-initialized_answer (initialization.Words w) = accepted (w.lqspi_clk_ctrl ∷ w.config ∷ written_words w.loopback)
-initialized_answer initialization.FieldTooWide = refused FieldTooWide
+abbrev pub initialized_answer : Result InitializeWords too_wide → Answer
+initialized_answer (Ok w) = accepted (w.lqspi_clk_ctrl ∷ w.config ∷ written_words w.loopback)
+initialized_answer (Err e) = refused FieldTooWide
 
 -- rule 12: clock divisor above 63
 abbrev pub initialize_answer : ClockConfig → Bool → Bool → Answer

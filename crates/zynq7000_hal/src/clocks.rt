@@ -22,8 +22,7 @@ impl Clocks {
         ensures clock { result ≡ source_clock src_sel self }
     {
         match src_sel {
-            SrcSelIo::IoPll => self.io_ref_clk,
-            SrcSelIo::IoPllAlt => self.io_ref_clk,
+            SrcSelIo::IoPll | SrcSelIo::IoPllAlt => self.io_ref_clk,
             SrcSelIo::ArmPll => self.arm_ref_clk,
             SrcSelIo::DdrPll => self.ddr_ref_clk,
         }

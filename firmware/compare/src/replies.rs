@@ -6,7 +6,7 @@ use crate::rng::Rng;
 use model::{Failure, IDLE_CONFIG, Mode, Model, Settings};
 use replay::call::Call;
 use replay::ways::{self, Lent};
-use verified::qspi_operation::{Asked, Reply};
+use verified::qspi_transfer::Due;
 
 /// Replies, and about so many log words that the call uses with them.
 pub(crate) struct Drawn {
@@ -37,16 +37,16 @@ fn live(rng: &mut Rng, call: Call, list: &[u32], data: &[u8], buffer: usize) -> 
     }
     let (mut replies, mut log) = (Vec::new(), vec![0; room]);
     let make = |asked| match asked {
-        Asked::Read(offset) => {
+        Ok(Some(Due::Read(offset))) => {
             let word = model.read(offset);
             replies.push(word);
-            Reply::Word(word)
+            Some(word)
         }
-        Asked::Write(offset, value) => {
+        Ok(Some(Due::Write(offset, value))) => {
             model.write(offset, value);
-            Reply::Nothing
+            None
         }
-        Asked::Nothing | Asked::LentLengthChanged => Reply::Nothing,
+        Ok(None) | Err(_) => None,
     };
     let lent = Lent { list, data, buffer: &mut bytes, log: &mut log };
     let ended = caught(|| ways::stepped_by(call, lent, make)).and_then(Result::ok);

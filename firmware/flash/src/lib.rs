@@ -20,14 +20,14 @@ pub use flash::Flash;
 pub use low_level::QspiLowLevel;
 pub use room::{Budget, Call, log_words};
 pub use verified;
-pub use verified::qspi_calls::start::{Config, Latency};
+pub use verified::qspi_calls::start::Config;
 pub use verified::zedboard_bsp::qspi_spansion::device_id::{BaseDeviceId, ExtendedDeviceId};
 pub use verified::zedboard_bsp::qspi_spansion::{ConfigRegister1, StatusRegister1};
 pub use verified::zynq7000_hal::qspi::ClockConfig;
 
 /// A flash whose registers [Flash::new] leaves as they are.
 pub const AS_IT_IS: Config =
-    Config { set_quad_bit_if_necessary: false, latency_config: Latency::AsRead, clear_write_protection: false };
+    Config { set_quad_bit_if_necessary: false, latency_config: None, clear_write_protection: false };
 
 // Its code is tried with the others.
 #[cfg(doctest)]

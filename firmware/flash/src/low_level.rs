@@ -6,10 +6,10 @@ use core::fmt;
 use core::ops::ControlFlow;
 use verified::qspi_calls::start;
 use verified::qspi_driver::QspiSpansionS25Fl256SIoMode;
-use verified::qspi_driver::state::{self, Answer, Progress};
-use verified::qspi_operation::{Asked, Op, Reply, is_going};
+use verified::qspi_driver::state::{self, Progress, StartRefused};
+use verified::qspi_operation::{Op, is_going};
 use verified::qspi_script::{Stage, Status};
-use verified::qspi_transfer::Phase;
+use verified::qspi_transfer::{Due, Phase};
 use verified::zynq7000_hal::qspi::ClockConfig;
 
 /// The QSPI controller behind a bus. It holds the proved driver, and lends it a log: two words for each access of the call at
@@ -134,7 +134,7 @@ impl<'l, B: Bus> QspiLowLevel<'l, B> {
     }
 
     /// A call that has begun, to its end. Each turn makes one access or ends the call, and the log has an end: so has this.
-    fn finish(&mut self, begun: Answer, data: &[u8], buffer: &mut [u8]) -> Result<(), Error> {
+    fn finish(&mut self, begun: Result<Status, StartRefused>, data: &[u8], buffer: &mut [u8]) -> Result<(), Error> {
         let mut patience = Patience::new(self.budget);
         let mut answer = begun;
         while state::is_under_way(answer) {
@@ -153,22 +153,22 @@ impl<'l, B: Bus> QspiLowLevel<'l, B> {
 
     /// Makes the access that is due, and gives the reply of a read. It makes none where the log has no room for it, so that the
     /// step answers 24, nor where patience has ended and a read is due, so that the step answers 23.
-    fn access(&mut self, data: &[u8], patience: &mut Patience) -> Reply {
+    fn access(&mut self, data: &[u8], patience: &mut Patience) -> Option<u32> {
         if self.log.len() - self.driver.state.op.used < 2 {
-            return Reply::Nothing;
+            return None;
         }
         match self.driver.due(data) {
-            Asked::Read(_) if patience.has_ended() => Reply::Nothing,
-            Asked::Read(offset) => {
+            Ok(Some(Due::Read(_))) if patience.has_ended() => None,
+            Ok(Some(Due::Read(offset))) => {
                 let word = self.bus.read(offset);
                 patience.look(self.phase(), word);
-                Reply::Word(word)
+                Some(word)
             }
-            Asked::Write(offset, value) => {
+            Ok(Some(Due::Write(offset, value))) => {
                 self.bus.write(offset, value);
-                Reply::Nothing
+                None
             }
-            Asked::Nothing | Asked::LentLengthChanged => Reply::Nothing,
+            Ok(None) | Err(_) => None,
         }
     }
 
@@ -206,16 +206,16 @@ impl<'l, B: Bus> QspiLowLevel<'l, B> {
         }
     }
 
-    fn end(&mut self, answer: Answer) -> Result<(), Error> {
+    fn end(&mut self, answer: Result<Status, StartRefused>) -> Result<(), Error> {
         match answer {
-            Answer::Given(status) => {
+            Ok(status) => {
                 if matches!(status, Status::RepliesEnded | Status::LogFull) {
                     self.reset_needed = self.is_open();
                 }
                 Error::of(status).map_or(Ok(()), Err)
             }
             // Never met: nothing is under way as a call starts, and a list comes with its start.
-            Answer::Busy | Answer::ListMissing => Err(Error::ResetNeeded),
+            Err(StartRefused::Busy | StartRefused::ListMissing) => Err(Error::ResetNeeded),
         }
     }
 

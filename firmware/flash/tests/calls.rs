@@ -9,7 +9,7 @@ use model::{Failure, Mode, Model, Settings};
 use qspi_flash::{AS_IT_IS, Budget, Bus, Call, Error, Flash, QspiLowLevel, Waiting, WritePagesError, log_words};
 use verified::qspi_operation;
 use verified::qspi_script::Status;
-use verified::zedboard_bsp::qspi_spansion::device_id::{Density, DensityCode};
+use verified::zedboard_bsp::qspi_spansion::device_id::Density;
 use verified::zynq7000_hal::qspi::ClockConfig;
 
 const AMPLE: Budget = Budget { looks: 1000, busy: 1000 };
@@ -137,7 +137,7 @@ fn ids_and_registers() {
     let mut board = flash(Model::new(settings), &mut log, AMPLE);
     let base = board.read_rdid_base().unwrap();
     assert_eq!((base.manufacturer_id(), base.device_id_raw()), (0x01, 0x0219));
-    assert_eq!(base.density(), DensityCode::Known(Density::_256Mb));
+    assert_eq!(base.density(), Ok(Density::_256Mb));
     let extended = board.read_rdid_extended().unwrap();
     assert_eq!((extended.base_id(), extended.family_id(), extended.model_number()), (base, 0x80, *b"R0"));
     assert_eq!(board.read_status_register_1().unwrap().block_protection(), 7);

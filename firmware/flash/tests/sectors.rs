@@ -6,9 +6,9 @@ use common::{Board, CLOCK, LIST, data, flash};
 use model::{Failure, Mode, Model, Settings};
 use qspi_flash::{AS_IT_IS, Budget, Bus, Call, EraseSectorsError, Error, Flash, QspiLowLevel, log_words};
 use verified::qspi_driver::QspiSpansionS25Fl256SIoMode;
-use verified::qspi_driver::state::{Answer, is_under_way};
-use verified::qspi_operation::{Asked, Reply};
+use verified::qspi_driver::state::{StartRefused, is_under_way};
 use verified::qspi_script::Status;
+use verified::qspi_transfer::Due;
 
 const AMPLE: Budget = Budget { looks: 1000, busy: 1000 };
 const SIZE: u32 = 0x1_0000;
@@ -225,18 +225,18 @@ fn after_an_open_transfer_a_list_is_refused_and_counts_nothing() {
 }
 
 /// The driver stepped by hand on a model, its list changed behind its back after the start.
-fn stepped(list: &mut [u32], log: &mut [u32]) -> (Answer, usize, usize) {
+fn stepped(list: &mut [u32], log: &mut [u32]) -> (Result<Status, StartRefused>, usize, usize) {
     let (mut driver, mut model) = (QspiSpansionS25Fl256SIoMode::idle(), Model::default());
     let mut answer = driver.erase_sectors(list, log.len());
     list.fill(OTHER);
     while is_under_way(answer) {
         let reply = match driver.due(&[]) {
-            Asked::Read(offset) => Reply::Word(Bus::read(&mut model, offset)),
-            Asked::Write(offset, value) => {
+            Ok(Some(Due::Read(offset))) => Some(Bus::read(&mut model, offset)),
+            Ok(Some(Due::Write(offset, value))) => {
                 Bus::write(&mut model, offset, value);
-                Reply::Nothing
+                None
             }
-            Asked::Nothing | Asked::LentLengthChanged => panic!("no access is due"),
+            Ok(None) | Err(_) => panic!("no access is due"),
         };
         answer = driver.step(&[], &mut [], log, reply);
     }
@@ -247,7 +247,7 @@ fn stepped(list: &mut [u32], log: &mut [u32]) -> (Answer, usize, usize) {
 fn a_list_that_is_changed_after_the_start_is_erased_as_it_was() {
     let (mut list, mut log, mut board_log) = (LIST, vec![0; 1000], vec![0; 1000]);
     let (answer, finished, used) = stepped(&mut list, &mut log);
-    assert_eq!((answer, finished, list), (Answer::Given(Status::Done), 3, [OTHER; 3]));
+    assert_eq!((answer, finished, list), (Ok(Status::Done), 3, [OTHER; 3]));
     assert_eq!(commands(&log[..used]), LIST);
     let mut board = flash(Model::default(), &mut board_log, AMPLE);
     assert_eq!(board.erase_sectors(&LIST), Ok(3));

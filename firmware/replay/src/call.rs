@@ -165,7 +165,7 @@ impl Call {
             Call::EnableIoMode { dual_flash } => start::enable_io_mode(dual_flash, log),
             Call::Disable => start::disable(log),
             Call::New { set_quad_bit_if_necessary, set_latency, latency, clear_write_protection } => {
-                let latency_config = codes::latency(set_latency, latency);
+                let latency_config = set_latency.then_some(latency);
                 start::new(Config { set_quad_bit_if_necessary, latency_config, clear_write_protection }, log)
             }
             Call::WriteEnable => start::write_enable(log),

@@ -2,15 +2,12 @@
 //! After `crates/qspi_abi/src/codes.rt` and the calls of `lib.rt` that make no access.
 
 use crate::call::{ClockCodes, Ended};
-use verified::qspi_calls::start::Latency;
-use verified::zedboard_bsp::qspi_spansion::device_id::{
-    BaseDeviceId, DensityCode, ExtendedDeviceId, MemoryInterfaceTypeCode, SectorArchictectureCode,
-};
+use verified::zedboard_bsp::qspi_spansion::device_id::{BaseDeviceId, ExtendedDeviceId};
 use verified::zynq7000::qspi::{BaudRateDivisor, InstructionCode};
 use verified::zynq7000::slcr::clocks::SrcSelIo;
 use verified::zynq7000_hal::clocks::Clocks;
 use verified::zynq7000_hal::qspi::{
-    BaudRateConfig, ClockCalculation, ClockConfig, QspiDeviceCombination, QspiVendor,
+    BaudRateConfig, ClockCalculationError, ClockConfig, QspiDeviceCombination, QspiVendor,
     linear_mode_config_for_common_devices,
 };
 
@@ -53,10 +50,6 @@ fn instruction(code: u8) -> Option<InstructionCode> {
     })
 }
 
-pub(crate) fn latency(given: bool, code: u8) -> Latency {
-    if given { Latency::Code(code) } else { Latency::AsRead }
-}
-
 /// None where a code is none; with loopback too, although its divisor is always 2.
 pub(crate) fn clock_config(codes: ClockCodes) -> Option<ClockConfig> {
     let (src_sel, divisor) = (source(codes.src_sel)?, divisor(codes.baud_rate_div)?);
@@ -73,11 +66,11 @@ pub(crate) fn calculate_with_loopback(src_sel: u8, clocks: Clocks, interface_tar
     clock_end(source(src_sel).map(|source| ClockConfig::calculate_with_loopback(source, clocks, interface_target)))
 }
 
-fn clock_end(calculation: Option<ClockCalculation>) -> Ended {
+fn clock_end(calculation: Option<Result<ClockConfig, ClockCalculationError>>) -> Ended {
     match calculation {
         None => Ended::at_once(FIELD_TOO_WIDE, &[]),
-        Some(ClockCalculation::Refused(error)) => Ended::at_once(error.number().into(), &[]),
-        Some(ClockCalculation::Config(config)) => Ended::at_once(0, &clock_values(config)),
+        Some(Err(error)) => Ended::at_once(error.number().into(), &[]),
+        Some(Ok(config)) => Ended::at_once(0, &clock_values(config)),
     }
 }
 
@@ -102,14 +95,14 @@ fn listed(known: bool) -> u32 {
 }
 
 pub(crate) fn id_values(id: BaseDeviceId) -> [u32; 4] {
-    let interface = listed(matches!(id.memory_interface_type(), MemoryInterfaceTypeCode::Known(_)));
-    let density = listed(matches!(id.density(), DensityCode::Known(_)));
+    let interface = listed(id.memory_interface_type().is_ok());
+    let density = listed(id.density().is_ok());
     [id.manufacturer_id().into(), id.device_id_raw().into(), interface, density]
 }
 
 pub(crate) fn long_id_values(id: ExtendedDeviceId) -> [u32; 9] {
     let [manufacturer, device, interface, density] = id_values(id.base_id());
-    let arch = listed(matches!(id.sector_arch(), SectorArchictectureCode::Known(_)));
+    let arch = listed(id.sector_arch().is_ok());
     let model = u16::from_be_bytes(id.model_number_raw());
     let (length, arch_raw, family) = (id.id_cfi_len().into(), id.sector_arch_raw().into(), id.family_id().into());
     [manufacturer, device, interface, density, length, arch_raw, arch, family, model.into()]

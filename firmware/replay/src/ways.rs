@@ -7,10 +7,11 @@ use crate::codes;
 use verified::power_cut::{self, PagesRan};
 use verified::qspi_calls::run::{command, kept, value};
 use verified::qspi_calls::sectors;
-use verified::qspi_driver::state::{Answer, Progress, is_under_way};
+use verified::qspi_driver::state::{self, Progress, StartRefused, is_under_way};
 use verified::qspi_driver::{self, QspiSpansionS25Fl256SIoMode};
-use verified::qspi_operation::{self, Asked, Op, Reply, Stepped};
+use verified::qspi_operation::{self, LentLengthChanged, Op, Stepped};
 use verified::qspi_script::{self, Gives, Status};
+use verified::qspi_transfer::Due;
 use verified::zedboard_bsp::qspi_spansion::device_id::{BaseDeviceId, ExtendedDeviceId};
 
 /// What a call is lent beside its replies.
@@ -118,21 +119,26 @@ pub fn driven(call: Call, replies: &[u32], lent: Lent) -> Ended {
         _ => qspi_driver::drive(idle, op, lent.data, lent.buffer, lent.log, replies),
     };
     let progress = driven.driver.answer();
-    Ended { answer: driven.answer.number().unwrap_or(u32::MAX), ..step_end(call, progress) }
+    Ended { answer: state::number(driven.answer).unwrap_or(u32::MAX), ..step_end(call, progress) }
 }
+
+/// What a start or a step answers.
+type Answer = Result<Status, StartRefused>;
+/// What a driver says is due.
+type Asked = Result<Option<Due>, LentLengthChanged>;
 
 /// The call stepped over the replies, in order.
 pub fn stepped(call: Call, replies: &[u32], lent: Lent) -> Result<Ended, Apart> {
     let mut rest = replies.iter();
     let next = |asked| match asked {
-        Asked::Read(_) => rest.next().map_or(Reply::Nothing, |word| Reply::Word(*word)),
-        _ => Reply::Nothing,
+        Ok(Some(Due::Read(_))) => rest.next().copied(),
+        _ => None,
     };
     stepped_by(call, lent, next)
 }
 
 /// The call stepped to its end. `make` is shown each access for which the log has room, and gives the reply to a read.
-pub fn stepped_by(call: Call, mut lent: Lent, mut make: impl FnMut(Asked) -> Reply) -> Result<Ended, Apart> {
+pub fn stepped_by(call: Call, mut lent: Lent, mut make: impl FnMut(Asked) -> Option<u32>) -> Result<Ended, Apart> {
     let op = match call.start(lent.list, lent.lengths()) {
         Start::Answered(ended) => return Ok(ended),
         Start::Operation(op) => op,
@@ -157,7 +163,7 @@ fn begun(driver: &mut QspiSpansionS25Fl256SIoMode, call: Call, op: Op, lent: &Le
     if !call.takes_list() {
         return Ok(answer);
     }
-    if answer != Answer::ListMissing || *driver != before {
+    if answer != Err(StartRefused::ListMissing) || *driver != before {
         return Err(Apart::List);
     }
     Ok(driver.erase_sectors(lent.list, lent.log.len()))
@@ -165,10 +171,10 @@ fn begun(driver: &mut QspiSpansionS25Fl256SIoMode, call: Call, op: Op, lent: &Le
 
 /// Whether a step that is lent another length than the start answers 25, and the driver stays as it was.
 fn refuses_other_lengths(mut driver: QspiSpansionS25Fl256SIoMode, lent: &mut Lent) -> bool {
-    let (before, refusal, reply) = (driver, Answer::Given(Status::LentLengthChanged), Reply::Word(0));
+    let (before, refusal, reply) = (driver, Ok(Status::LentLengthChanged), Some(0));
     let Lent { data, buffer, log, .. } = lent;
     let other_data = data.get(1..).unwrap_or(&[0]);
-    let mut is_refused = driver.due(other_data) == Asked::LentLengthChanged;
+    let mut is_refused = driver.due(other_data) == Err(LentLengthChanged);
     is_refused &= driver.step(other_data, buffer, log, reply) == refusal;
     is_refused &= driver.step(data, buffer.get_mut(1..).unwrap_or(&mut [0]), log, reply) == refusal;
     is_refused &= driver.step(data, buffer, log.get_mut(1..).unwrap_or(&mut [0]), reply) == refusal;
@@ -179,21 +185,21 @@ fn refuses_other_lengths(mut driver: QspiSpansionS25Fl256SIoMode, lent: &mut Len
 fn step(
     driver: &mut QspiSpansionS25Fl256SIoMode,
     lent: &mut Lent,
-    make: &mut impl FnMut(Asked) -> Reply,
+    make: &mut impl FnMut(Asked) -> Option<u32>,
 ) -> Result<Answer, Apart> {
     let (used, replies) = (driver.state.op.used, driver.state.op.replies);
     let has_room = used + 2 <= lent.log.len();
     let asked = driver.due(lent.data);
     // Without room the access is not made, a write neither.
-    let reply = if has_room { make(asked) } else { Reply::Nothing };
+    let reply = if has_room { make(asked) } else { None };
     let answer = driver.step(lent.data, lent.buffer, lent.log, reply);
     let after = driver.state.op;
     let Some(words) = log_words(asked, reply).filter(|_| has_room) else {
         let refusal = if has_room { Status::RepliesEnded } else { Status::LogFull };
-        let is_unmade = answer == Answer::Given(refusal) && (after.used, after.replies) == (used, replies);
+        let is_unmade = answer == Ok(refusal) && (after.used, after.replies) == (used, replies);
         return if is_unmade { Ok(answer) } else { Err(Apart::Unmade) };
     };
-    let is_read = matches!(asked, Asked::Read(_));
+    let is_read = matches!(asked, Ok(Some(Due::Read(_))));
     if (after.used, after.replies) != (used + 2, replies + usize::from(is_read)) {
         return Err(Apart::Counts);
     }
@@ -201,10 +207,10 @@ fn step(
 }
 
 /// The log words of an access; none where nothing is due, or a read has no reply.
-fn log_words(asked: Asked, reply: Reply) -> Option<[u32; 2]> {
+fn log_words(asked: Asked, reply: Option<u32>) -> Option<[u32; 2]> {
     match (asked, reply) {
-        (Asked::Read(offset), Reply::Word(word)) => Some([0x100 + u32::from(offset), word]),
-        (Asked::Write(offset, value), _) => Some([offset.into(), value]),
+        (Ok(Some(Due::Read(offset))), Some(word)) => Some([0x100 + u32::from(offset), word]),
+        (Ok(Some(Due::Write(offset, value))), _) => Some([offset.into(), value]),
         _ => None,
     }
 }
@@ -212,8 +218,8 @@ fn log_words(asked: Asked, reply: Reply) -> Option<[u32; 2]> {
 /// An ended operation shows no access, and stepped again it repeats its answer.
 fn stays_ended(mut driver: QspiSpansionS25Fl256SIoMode, answer: Answer, lent: &mut Lent) -> Result<(), Apart> {
     let before = driver;
-    let is_over = driver.due(lent.data) == Asked::Nothing;
-    let again = driver.step(lent.data, lent.buffer, lent.log, Reply::Word(0));
+    let is_over = driver.due(lent.data) == Ok(None);
+    let again = driver.step(lent.data, lent.buffer, lent.log, Some(0));
     if is_over && again == answer && driver == before { Ok(()) } else { Err(Apart::Ended) }
 }
 

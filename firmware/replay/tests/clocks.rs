@@ -3,16 +3,16 @@
 
 use verified::zynq7000::slcr::clocks::SrcSelIo;
 use verified::zynq7000_hal::clocks::Clocks;
-use verified::zynq7000_hal::qspi::{BaudRateConfig, ClockCalculation, ClockConfig};
+use verified::zynq7000_hal::qspi::{BaudRateConfig, ClockCalculationError, ClockConfig};
 
 const STORED: &str = include_str!("../../../crates/clock_cases/stdout");
 const SOURCES: [SrcSelIo; 4] = [SrcSelIo::IoPll, SrcSelIo::IoPllAlt, SrcSelIo::ArmPll, SrcSelIo::DdrPll];
 
 /// As the program shows it.
-fn shown(calculation: ClockCalculation) -> String {
+fn shown(calculation: Result<ClockConfig, ClockCalculationError>) -> String {
     let config = match calculation {
-        ClockCalculation::Refused(error) => return format!(" -> {}", error.number()),
-        ClockCalculation::Config(config) => config,
+        Err(error) => return format!(" -> {}", error.number()),
+        Ok(config) => config,
     };
     let kind = match config.baud_rate_config {
         BaudRateConfig::WithLoopback => "loopback",

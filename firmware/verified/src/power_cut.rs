@@ -35,23 +35,13 @@ pub struct SectorsRan {
     pub place: u32,
 }
 
-// The numbers of a list that its run is lent: all of them. A longer list is refused before any access,
-// whatever its run is lent.
-fn lent(count: usize) -> usize {
-    if count <= LONGEST_LIST {
-        count
-    } else {
-        LONGEST_LIST
-    }
-}
-
 pub fn erase_sectors(list: &[u32], replies: &[u32], log: &mut [u32]) -> SectorsRan {
     let op = start::erase_sectors(list, log.len());
     let numbers = sectors::numbered(list);
-    let all = &numbers[..];
-    let count = lent(list.len());
+    // All of them: a longer list is refused before any access, whatever its run is lent.
+    let count = list.len().min(LONGEST_LIST);
     let mut buffer = [0u8; 0];
-    let s = qspi_operation::run(op, &all[..count], &mut buffer, log, replies);
+    let s = qspi_operation::run(op, &numbers[..count], &mut buffer, log, replies);
     let finished = qspi_operation::counted(s.op);
     let place = run::value(s);
     let ran = run::finish(s);

@@ -3,13 +3,14 @@
 //! takes it apart and calls the covered function of `state`; `drive` runs a whole call by the same ones.
 
 use crate::qspi_calls::start;
-use crate::qspi_driver::state::Answer;
 use crate::qspi_driver::state::Progress;
 use crate::qspi_driver::state::SectorList;
+use crate::qspi_driver::state::StartRefused;
 use crate::qspi_driver::state::State;
-use crate::qspi_operation::Asked;
+use crate::qspi_operation::LentLengthChanged;
 use crate::qspi_operation::Op;
-use crate::qspi_operation::Reply;
+use crate::qspi_script::Status;
+use crate::qspi_transfer::Due;
 
 pub mod state;
 
@@ -24,42 +25,38 @@ impl QspiSpansionS25Fl256SIoMode {
     // A driver with no operation at hand.
     pub fn idle() -> QspiSpansionS25Fl256SIoMode {
         let op = start::read_page_read(0, 0, 0);
-        let state = State { op };
         let numbers = [0u8; 256];
-        let list = SectorList { numbers };
-        QspiSpansionS25Fl256SIoMode { state, list }
+        QspiSpansionS25Fl256SIoMode {
+            state: State { op },
+            list: SectorList { numbers },
+        }
     }
 
     // Begins a call: `op` is what a function of `qspi_calls::start` gave. While the operation at hand has
     // not ended the answer is `Busy`, and of a list of sectors it is `ListMissing`: nothing is changed.
-    pub fn start(&mut self, op: Op) -> Answer {
-        let state = self.state;
-        let s = state::begin(state, op);
+    pub fn start(&mut self, op: Op) -> Result<Status, StartRefused> {
+        let s = state::begin(self.state, op);
         self.state = s.state;
         s.answer
     }
 
     // Begins the erase of a list of sectors, whose numbers are kept beside the operation: no step is lent
     // the list again. While the operation at hand has not ended the answer is `Busy`, and nothing is changed.
-    pub fn erase_sectors(&mut self, list: &[u32], log: usize) -> Answer {
-        let state = self.state;
-        let kept = self.list;
-        let s = state::begin_list(state, kept, list, log);
+    pub fn erase_sectors(&mut self, list: &[u32], log: usize) -> Result<Status, StartRefused> {
+        let s = state::begin_list(self.state, self.list, list, log);
         self.state = s.state;
         self.list = s.list;
         s.answer
     }
 
     // The access that is due, without effect.
-    pub fn due(&self, data: &[u8]) -> Asked {
-        let state = self.state;
-        state::due(state, &self.list.numbers, data)
+    pub fn due(&self, data: &[u8]) -> Result<Option<Due>, LentLengthChanged> {
+        state::due(self.state, &self.list.numbers, data)
     }
 
     // The answer so far.
     pub fn answer(&self) -> Progress {
-        let state = self.state;
-        state::answer_so_far(state)
+        state::answer_so_far(self.state)
     }
 
     // A step of the operation at hand: it makes and logs one access, or answers 23, 24 or 25, or repeats the
@@ -70,10 +67,9 @@ impl QspiSpansionS25Fl256SIoMode {
         data: &[u8],
         buffer: &mut [u8],
         log: &mut [u32],
-        reply: Reply,
-    ) -> Answer {
-        let state = self.state;
-        let s = state::step(state, &self.list.numbers, data, buffer, log, reply);
+        reply: Option<u32>,
+    ) -> Result<Status, StartRefused> {
+        let s = state::step(self.state, &self.list.numbers, data, buffer, log, reply);
         self.state = s.state;
         s.answer
     }
@@ -83,14 +79,14 @@ impl QspiSpansionS25Fl256SIoMode {
 #[derive(Clone, Copy, Debug, PartialEq, Eq)]
 pub struct Driven {
     pub driver: QspiSpansionS25Fl256SIoMode,
-    pub answer: Answer,
+    pub answer: Result<Status, StartRefused>,
 }
 
 // The rest of a call that was begun: it is stepped to its end, the replies in order. State and list are
 // taken apart: in one struct, of which a step is lent the list, the operation would not stay in registers.
 fn finish(
     driver: QspiSpansionS25Fl256SIoMode,
-    begun: Answer,
+    begun: Result<Status, StartRefused>,
     data: &[u8],
     buffer: &mut [u8],
     log: &mut [u32],
@@ -105,11 +101,13 @@ fn finish(
         at_hand = s.state;
         answer = s.answer;
     }
-    let driver = QspiSpansionS25Fl256SIoMode {
-        state: at_hand,
-        list,
-    };
-    Driven { driver, answer }
+    Driven {
+        driver: QspiSpansionS25Fl256SIoMode {
+            state: at_hand,
+            list,
+        },
+        answer,
+    }
 }
 
 // A whole call: `op` is begun and stepped to its end, the replies in order, for a caller that has the driver
@@ -122,13 +120,12 @@ pub fn drive(
     log: &mut [u32],
     replies: &[u32],
 ) -> Driven {
-    let state = driver.state;
-    let list = driver.list;
-    let acted = state::begin(state, op);
-    let next = acted.state;
-    let answer = acted.answer;
-    let begun = QspiSpansionS25Fl256SIoMode { state: next, list };
-    finish(begun, answer, data, buffer, log, replies)
+    let acted = state::begin(driver.state, op);
+    let begun = QspiSpansionS25Fl256SIoMode {
+        state: acted.state,
+        ..driver
+    };
+    finish(begun, acted.answer, data, buffer, log, replies)
 }
 
 // A save through the driver. Its contract states what a power cut can leave in the flash.
@@ -140,8 +137,7 @@ pub fn write_pages(
     log: &mut [u32],
 ) -> Driven {
     let op = start::write_pages(addr, data.len(), log.len());
-    let mut buffer = [0u8; 0];
-    drive(driver, op, data, &mut buffer, log, replies)
+    drive(driver, op, data, &mut [], log, replies)
 }
 
 // A list of sectors, erased from the first to the last through the driver, which keeps the list. Its
@@ -152,17 +148,10 @@ pub fn erase_sectors(
     replies: &[u32],
     log: &mut [u32],
 ) -> Driven {
-    let state = driver.state;
-    let kept = driver.list;
-    let acted = state::begin_list(state, kept, list, log.len());
-    let next = acted.state;
-    let copied = acted.list;
-    let answer = acted.answer;
+    let acted = state::begin_list(driver.state, driver.list, list, log.len());
     let begun = QspiSpansionS25Fl256SIoMode {
-        state: next,
-        list: copied,
+        state: acted.state,
+        list: acted.list,
     };
-    let data = [0u8; 0];
-    let mut buffer = [0u8; 0];
-    finish(begun, answer, &data, &mut buffer, log, replies)
+    finish(begun, acted.answer, &[], &mut [], log, replies)
 }

@@ -2,16 +2,13 @@
 //! An operation as a state by value: the access that is due, the step that makes and logs it, and a run
 //! over replies and a log. Document 01, "What changes shape" and "What the state can bring on".
 
-use crate::qspi_script;
 use crate::qspi_script::Job;
-use crate::qspi_script::Number;
 use crate::qspi_script::Place;
 use crate::qspi_script::Sequel;
 use crate::qspi_script::Status;
-use crate::qspi_transfer;
+use crate::qspi_script::Turned;
 use crate::qspi_transfer::Due;
 use crate::qspi_transfer::Frame;
-use crate::qspi_transfer::Moved;
 use crate::qspi_transfer::Phase;
 use crate::qspi_transfer::Wire;
 use crate::qspi_transfer::low_level;
@@ -32,31 +29,22 @@ pub struct Op {
     pub status: Status,
 }
 
-// A step is handed one reply or none.
+// The data lent now has another length than the call was lent at its start: the access due is not known.
 #[derive(Clone, Copy, Debug, PartialEq, Eq)]
-pub enum Reply {
-    Word(u32),
-    Nothing,
+pub struct LentLengthChanged;
+
+impl LentLengthChanged {
+    // Document 01's number.
+    pub fn number(self) -> u32 {
+        25
+    }
 }
 
-// The access due, asked for without effect; nothing where the operation has ended.
-#[derive(Clone, Copy, Debug, PartialEq, Eq)]
-pub enum Asked {
-    Read(u8),
-    Write(u8, u32),
-    Nothing,
-    LentLengthChanged,
-}
-
-impl Asked {
-    // Document 01's number: 25, or none where nothing is refused.
-    pub fn number(self) -> Number {
-        match self {
-            Asked::Read(_) => Number::Without,
-            Asked::Write(_, _) => Number::Without,
-            Asked::Nothing => Number::Without,
-            Asked::LentLengthChanged => Number::Of(25),
-        }
+// The number of what `due` answers, where it is refused.
+pub fn refusal_number(asked: Result<Option<Due>, LentLengthChanged>) -> Option<u32> {
+    match asked {
+        Ok(_) => None,
+        Err(changed) => Some(changed.number()),
     }
 }
 
@@ -67,248 +55,205 @@ pub struct Stepped {
     pub answer: Status,
 }
 
-// What a step does: nothing, or one access, as its two log words and whether it used a reply.
+// One access, as its two log words, and whether it used a reply.
 #[derive(Clone, Copy, Debug, PartialEq, Eq)]
-pub enum Verdict {
-    Ended,
-    Changed,
-    Full,
-    Dry,
-    Made(u32, u32, bool),
+struct Accessed {
+    first: u32,
+    value: u32,
+    read: bool,
 }
 
-// How a pass of a run's loop ended: the transfer goes on, it is over, or no access was made.
+// Why a step of an operation that is going on makes no access.
 #[derive(Clone, Copy, Debug, PartialEq, Eq)]
-enum How {
-    On,
-    Over,
-    Changed,
-    Full,
-    Dry,
+enum NoAccess {
+    LentLengthChanged,
+    LogFull,
+    RepliesEnded,
 }
 
-// What a pass leaves of the transfer at hand, and the used counts.
+// What an access leaves of the transfer at hand, nothing if it was its last one, and the used counts.
 #[derive(Clone, Copy, Debug, PartialEq, Eq)]
 struct Passed {
-    wire: Wire,
+    wire: Option<Wire>,
     used: usize,
     replies: usize,
-    how: How,
-}
-
-fn is_on(how: How) -> bool {
-    match how {
-        How::On => true,
-        How::Over => false,
-        How::Changed => false,
-        How::Full => false,
-        How::Dry => false,
-    }
 }
 
 pub fn is_going(status: Status) -> bool {
-    if let Status::Going = status {
-        true
-    } else {
-        false
+    matches!(status, Status::Going)
+}
+
+impl Op {
+    // The access of a register call.
+    fn register_access(&self) -> Due {
+        let call = self.job.low_level;
+        low_level::due(call.sequence, self.wire.sent, self.wire.config, call.word)
     }
-}
 
-// The access of a register call.
-fn register_access(job: Job, wire: Wire) -> Due {
-    let call = job.low_level;
-    let sequence = call.sequence;
-    low_level::due(sequence, wire.sent, wire.config, call.word)
-}
-
-// The word that a transfer sends next.
-fn send(job: Job, place: Place, wire: Wire, data: &[u8]) -> Due {
-    let frame = qspi_script::frame(job, place);
-    Due::Write(
-        frame.port,
-        qspi_script::due_word(job, place, wire.sent, data),
-    )
-}
-
-// The access of an operation that is going on.
-fn access(job: Job, place: Place, wire: Wire, data: &[u8]) -> Due {
-    let phase = wire.phase;
-    let config = wire.config;
-    match phase {
-        Phase::Send => send(job, place, wire, data),
-        Phase::DrainStatus => Due::Read(qspi::INTERRUPT_STATUS),
-        Phase::DrainData => Due::Read(qspi::RX_DATA),
-        Phase::OpenRead => Due::Read(qspi::CONFIG),
-        Phase::OpenWrite => Due::Write(
-            qspi::CONFIG,
-            bits::clear(config, Config::PERIPHERAL_CHIP_SELECT),
-        ),
-        Phase::Enable => Due::Write(qspi::SPI_ENABLE, 1),
-        Phase::StartRead => Due::Read(qspi::CONFIG),
-        Phase::StartWrite => Due::Write(
-            qspi::CONFIG,
-            bits::put(config, Config::MANUAL_START_COMMAND),
-        ),
-        Phase::Wait => Due::Read(qspi::INTERRUPT_STATUS),
-        Phase::WaitAgain => Due::Read(qspi::INTERRUPT_STATUS),
-        Phase::Take => Due::Read(qspi::RX_DATA),
-        Phase::CloseRead => Due::Read(qspi::CONFIG),
-        Phase::CloseWrite => Due::Write(
-            qspi::CONFIG,
-            bits::put(config, Config::PERIPHERAL_CHIP_SELECT),
-        ),
-        Phase::Disable => Due::Write(qspi::SPI_ENABLE, 0),
-        Phase::Registers => register_access(job, wire),
+    // The word that a transfer sends next.
+    fn send(&self, data: &[u8]) -> Due {
+        let word = self.job.due_word(self.place, self.wire.sent, data);
+        Due::Write(self.job.frame(self.place).port, word)
     }
-}
 
-fn show(due: Due) -> Asked {
-    match due {
-        Due::Read(offset) => Asked::Read(offset),
-        Due::Write(offset, value) => Asked::Write(offset, value),
-    }
-}
-
-// The access that is due, by the data lent.
-pub fn due(op: Op, data: &[u8]) -> Asked {
-    let job = op.job;
-    let place = op.place;
-    let wire = op.wire;
-    let status = op.status;
-    let lent = job.lent;
-    if is_going(status) {
-        if data.len() == lent.data {
-            show(access(job, place, wire, data))
-        } else {
-            Asked::LentLengthChanged
+    // The access of an operation that is going on.
+    fn access(&self, data: &[u8]) -> Due {
+        let config = self.wire.config;
+        match self.wire.phase {
+            Phase::DrainStatus | Phase::Wait | Phase::WaitAgain => {
+                Due::Read(qspi::INTERRUPT_STATUS)
+            }
+            Phase::DrainData | Phase::Take => Due::Read(qspi::RX_DATA),
+            Phase::OpenRead | Phase::StartRead | Phase::CloseRead => Due::Read(qspi::CONFIG),
+            Phase::OpenWrite => Due::Write(
+                qspi::CONFIG,
+                bits::clear(config, Config::PERIPHERAL_CHIP_SELECT),
+            ),
+            Phase::StartWrite => Due::Write(
+                qspi::CONFIG,
+                bits::put(config, Config::MANUAL_START_COMMAND),
+            ),
+            Phase::CloseWrite => Due::Write(
+                qspi::CONFIG,
+                bits::put(config, Config::PERIPHERAL_CHIP_SELECT),
+            ),
+            Phase::Enable => Due::Write(qspi::SPI_ENABLE, 1),
+            Phase::Disable => Due::Write(qspi::SPI_ENABLE, 0),
+            Phase::Send => self.send(data),
+            Phase::Registers => self.register_access(),
         }
-    } else {
-        Asked::Nothing
     }
+
+    // Whether the memory has the lengths that were lent at the start.
+    fn was_lent(&self, data: usize, buffer: usize, log: usize) -> bool {
+        let lent = self.job.lent;
+        data == lent.data && buffer == lent.buffer && log == lent.log
+    }
+
+    // The access that a step makes of an operation that is going on: 25, then 24, then 23.
+    fn judged(
+        &self,
+        data: &[u8],
+        buffer: usize,
+        room: usize,
+        replies: &[u32],
+        at: usize,
+    ) -> Result<Accessed, NoAccess> {
+        if !self.was_lent(data.len(), buffer, room) {
+            return Err(NoAccess::LentLengthChanged);
+        }
+        if !has_room(self.used, room) {
+            return Err(NoAccess::LogFull);
+        }
+        answer_by(self.access(data), replies, at)
+    }
+
+    // Ended without an access.
+    fn stopped(self, status: Status) -> Stepped {
+        let op = Op { status, ..self };
+        Stepped { op, answer: status }
+    }
+
+    // No access was made: 25 ends nothing.
+    fn refused(self, why: NoAccess) -> Stepped {
+        match why {
+            NoAccess::LentLengthChanged => Stepped {
+                op: self,
+                answer: Status::LentLengthChanged,
+            },
+            NoAccess::LogFull => self.stopped(Status::LogFull),
+            NoAccess::RepliesEnded => self.stopped(Status::RepliesEnded),
+        }
+    }
+
+    // After the last access of a transfer.
+    fn turned(self, used: usize, replies: usize) -> Stepped {
+        let Turned { place, status } = self.job.turn(self.place, self.wire.last);
+        let op = Op {
+            place,
+            wire: wire_after(status, self.wire),
+            used,
+            replies,
+            status,
+            ..self
+        };
+        Stepped { op, answer: status }
+    }
+
+    // After an access.
+    fn moved(self, passed: Passed) -> Stepped {
+        let Passed {
+            wire,
+            used,
+            replies,
+        } = passed;
+        match wire {
+            Some(wire) => Stepped {
+                op: Op {
+                    wire,
+                    used,
+                    replies,
+                    status: Status::Going,
+                    ..self
+                },
+                answer: Status::Going,
+            },
+            None => self.turned(used, replies),
+        }
+    }
+}
+
+// The access that is due, by the data lent, asked for without effect; none where the operation has ended.
+pub fn due(op: Op, data: &[u8]) -> Result<Option<Due>, LentLengthChanged> {
+    if !is_going(op.status) {
+        return Ok(None);
+    }
+    if data.len() != op.job.lent.data {
+        return Err(LentLengthChanged);
+    }
+    Ok(Some(op.access(data)))
 }
 
 // A read uses the reply at a place; a write uses none.
-fn answer_by(due: Due, replies: &[u32], at: usize) -> Verdict {
+fn answer_by(due: Due, replies: &[u32], at: usize) -> Result<Accessed, NoAccess> {
     match due {
         Due::Read(offset) => {
             if at < replies.len() {
-                Verdict::Made(0x100 + offset as u32, replies[at], true)
+                Ok(Accessed {
+                    first: 0x100 + offset as u32,
+                    value: replies[at],
+                    read: true,
+                })
             } else {
-                Verdict::Dry
+                Err(NoAccess::RepliesEnded)
             }
         }
-        Due::Write(offset, value) => Verdict::Made(offset as u32, value, false),
+        Due::Write(offset, value) => Ok(Accessed {
+            first: offset as u32,
+            value,
+            read: false,
+        }),
     }
-}
-
-// Whether the memory has the lengths that were lent at the start.
-fn same_lengths(job: Job, data: usize, buffer: usize, log: usize) -> bool {
-    let lent = job.lent;
-    if data == lent.data {
-        if buffer == lent.buffer {
-            if log == lent.log {
-                return true;
-            }
-        }
-    }
-    false
 }
 
 // Whether two words of log are left.
 fn has_room(used: usize, room: usize) -> bool {
-    if room < 2 {
-        return false;
-    }
-    if used <= room - 2 { true } else { false }
-}
-
-// 25, then 24, then 23.
-fn judged(op: Op, data: &[u8], buffer: usize, room: usize, replies: &[u32], at: usize) -> Verdict {
-    let job = op.job;
-    let place = op.place;
-    let wire = op.wire;
-    if same_lengths(job, data.len(), buffer, room) {
-        if has_room(op.used, room) {
-            answer_by(access(job, place, wire, data), replies, at)
-        } else {
-            Verdict::Full
-        }
-    } else {
-        Verdict::Changed
-    }
-}
-
-// Ended without an access.
-fn stop(op: Op, status: Status) -> Stepped {
-    let job = op.job;
-    let place = op.place;
-    let wire = op.wire;
-    let ended = Op {
-        job,
-        place,
-        wire,
-        used: op.used,
-        replies: op.replies,
-        status,
-    };
-    Stepped {
-        op: ended,
-        answer: status,
-    }
+    2 <= room && used <= room - 2
 }
 
 // The wire of the next transfer; after the last one the replies stay for the answer.
 fn wire_after(status: Status, wire: Wire) -> Wire {
     if is_going(status) {
-        qspi_transfer::begin(Phase::DrainStatus)
+        Wire::begin(Phase::DrainStatus)
     } else {
         wire
-    }
-}
-
-fn turned(op: Op, used: usize, replies: usize) -> Stepped {
-    let job = op.job;
-    let wire = op.wire;
-    let t = qspi_script::turn(job, op.place, wire.last);
-    let place = t.place;
-    let status = t.status;
-    let wire = wire_after(status, wire);
-    let next = Op {
-        job,
-        place,
-        wire,
-        used,
-        replies,
-        status,
-    };
-    Stepped {
-        op: next,
-        answer: status,
-    }
-}
-
-// After an access of a value, with the new used counts.
-fn advanced(wire: Wire, frame: Frame, used: usize, replies: usize, value: u32) -> Passed {
-    match qspi_transfer::advance(wire, frame, value) {
-        Moved::On(next) => Passed {
-            wire: next,
-            used,
-            replies,
-            how: How::On,
-        },
-        Moved::Over => Passed {
-            wire,
-            used,
-            replies,
-            how: How::Over,
-        },
     }
 }
 
 // A reply is counted where the access was a read.
 fn count(read: bool, replies: usize) -> usize {
     if read {
-        usize::wrapping_add(replies, 1)
+        replies.wrapping_add(1)
     } else {
         replies
     }
@@ -321,70 +266,25 @@ fn put(log: &mut [u32], at: usize, first: u32, value: u32) {
     log[at + 1] = value;
 }
 
-// No access was made.
-fn unmoved(op: Op, how: How) -> Passed {
-    let wire = op.wire;
-    Passed {
-        wire,
-        used: op.used,
-        replies: op.replies,
-        how,
-    }
-}
-
 // One access of an operation that is going on, or none, where the frame of its transfer is at hand.
-// requires { (frame ≡ frame_of op.job op.place) × (op.status ≡ Going) }
+// requires { (frame ≡ frame_of op.now.job op.now.place) × (op.now.status ≡ Going) }
 fn pass(
-    op: Op,
+    op: &Op,
     frame: Frame,
     data: &[u8],
     buffer: &mut [u8],
     log: &mut [u32],
     replies: &[u32],
     at: usize,
-) -> Passed {
-    let used = op.used;
-    match judged(op, data, buffer.len(), log.len(), replies, at) {
-        // Never so: `judged` is asked only of an operation that is going on.
-        Verdict::Ended => unmoved(op, How::Changed),
-        Verdict::Changed => unmoved(op, How::Changed),
-        Verdict::Full => unmoved(op, How::Full),
-        Verdict::Dry => unmoved(op, How::Dry),
-        Verdict::Made(first, value, read) => {
-            put(log, used, first, value);
-            store::store(buffer, op.job, op.place, op.wire, value);
-            advanced(op.wire, frame, used + 2, count(read, op.replies), value)
-        }
-    }
-}
-
-// The step that a pass stands for.
-fn resolved(job: Job, place: Place, passed: Passed) -> Stepped {
-    let wire = passed.wire;
-    let how = passed.how;
-    let used = passed.used;
-    let replies = passed.replies;
-    let op = Op {
-        job,
-        place,
-        wire,
-        used,
-        replies,
-        status: Status::Going,
-    };
-    match how {
-        How::On => Stepped {
-            op,
-            answer: Status::Going,
-        },
-        How::Over => turned(op, used, replies),
-        How::Changed => Stepped {
-            op,
-            answer: Status::LentLengthChanged,
-        },
-        How::Full => stop(op, Status::LogFull),
-        How::Dry => stop(op, Status::RepliesEnded),
-    }
+) -> Result<Passed, NoAccess> {
+    let made = op.judged(data, buffer.len(), log.len(), replies, at)?;
+    put(log, op.used, made.first, made.value);
+    store::store(buffer, op, made.value);
+    Ok(Passed {
+        wire: op.wire.advance(frame, made.value),
+        used: op.used + 2,
+        replies: count(made.read, op.replies),
+    })
 }
 
 // One step of an operation, where the reply is the one at a place of the replies.
@@ -396,24 +296,32 @@ pub fn step_at(
     replies: &[u32],
     at: usize,
 ) -> Stepped {
-    let status = op.status;
-    if is_going(status) {
-        let frame = qspi_script::frame(op.job, op.place);
-        let passed = pass(op, frame, data, buffer, log, replies, at);
-        resolved(op.job, op.place, passed)
-    } else {
-        Stepped { op, answer: status }
+    if !is_going(op.status) {
+        return Stepped {
+            op,
+            answer: op.status,
+        };
+    }
+    match pass(&op, op.job.frame(op.place), data, buffer, log, replies, at) {
+        Ok(passed) => op.moved(passed),
+        Err(why) => op.refused(why),
     }
 }
 
-// One step of an operation.
-pub fn step(op: Op, data: &[u8], buffer: &mut [u8], log: &mut [u32], reply: Reply) -> Stepped {
+// One step of an operation, which is handed one reply or none.
+pub fn step(
+    op: Op,
+    data: &[u8],
+    buffer: &mut [u8],
+    log: &mut [u32],
+    reply: Option<u32>,
+) -> Stepped {
     match reply {
-        Reply::Word(word) => {
+        Some(word) => {
             let one = [word];
             step_at(op, data, buffer, log, &one, 0)
         }
-        Reply::Nothing => {
+        None => {
             let none = [0u32; 0];
             step_at(op, data, buffer, log, &none, 0)
         }
@@ -424,45 +332,37 @@ pub fn step(op: Op, data: &[u8], buffer: &mut [u8], log: &mut [u32], reply: Repl
 // used counts go round the loop, and field by field: a struct that is copied whole takes its padding along.
 // requires { op.status ≡ Going }
 fn transfer(op: Op, data: &[u8], buffer: &mut [u8], log: &mut [u32], replies: &[u32]) -> Stepped {
-    let job = op.job;
-    let place = op.place;
-    let frame = qspi_script::frame(job, place);
+    let frame = op.job.frame(op.place);
     let mut wire = op.wire;
     let mut used = op.used;
     let mut taken = op.replies;
-    let mut how = How::On;
-    while is_on(how) {
+    loop {
         let o = Op {
-            job,
-            place,
             wire,
             used,
             replies: taken,
             status: Status::Going,
+            ..op
         };
-        let x = pass(o, frame, data, buffer, log, replies, taken);
-        let w = x.wire;
-        let phase = w.phase;
+        let passed = match pass(&o, frame, data, buffer, log, replies, taken) {
+            Ok(passed) => passed,
+            Err(why) => return o.refused(why),
+        };
+        let Some(next) = passed.wire else {
+            return o.turned(passed.used, passed.replies);
+        };
         wire = Wire {
-            phase,
-            config: w.config,
-            sent: w.sent,
-            read_index: w.read_index,
-            older: w.older,
-            old: w.old,
-            last: w.last,
+            phase: next.phase,
+            config: next.config,
+            sent: next.sent,
+            read_index: next.read_index,
+            older: next.older,
+            old: next.old,
+            last: next.last,
         };
-        used = x.used;
-        taken = x.replies;
-        how = x.how;
+        used = passed.used;
+        taken = passed.replies;
     }
-    let end = Passed {
-        wire,
-        used,
-        replies: taken,
-        how,
-    };
-    resolved(job, place, end)
 }
 
 // Steps an operation to its end, the replies in order.
@@ -480,25 +380,13 @@ pub fn run(op: Op, data: &[u8], buffer: &mut [u8], log: &mut [u32], replies: &[u
 // What the answer counts: the bytes of the chunks of `write_pages` that ended clean, or the sectors of a
 // list that did.
 pub fn counted(op: Op) -> usize {
-    let job = op.job;
-    let script = job.script;
-    let sequel = script.sequel;
-    let place = op.place;
-    match sequel {
+    match op.job.script.sequel {
         Sequel::Once => 0,
-        Sequel::Pages => place.done,
-        Sequel::Sectors => place.done,
+        Sequel::Pages | Sequel::Sectors => op.place.done,
     }
 }
 
 // Whether an operation erases a list of sectors, which it is lent as its data.
 pub fn erases_list(op: Op) -> bool {
-    let job = op.job;
-    let script = job.script;
-    let sequel = script.sequel;
-    match sequel {
-        Sequel::Once => false,
-        Sequel::Pages => false,
-        Sequel::Sectors => true,
-    }
+    matches!(op.job.script.sequel, Sequel::Sectors)
 }

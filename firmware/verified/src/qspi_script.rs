@@ -33,64 +33,34 @@ pub enum Stage {
     End,
 }
 
-// How a call stands: going on, done, or ended by a refusal of the papers. `LentLengthChanged` is
-// answered by a step and ends nothing.
+// How a call stands: going on, done, or ended by a refusal, each with the papers' number; 26 is the number
+// of no answer. `LentLengthChanged` is answered by a step and ends nothing.
 #[derive(Clone, Copy, Debug, PartialEq, Eq)]
 pub enum Status {
-    Going,
-    Done,
-    OutOfRange,
-    Alignment,
-    DataTooLarge,
-    NotAligned,
-    CrossesPageBoundary,
-    AddressSpan,
-    FieldTooWide,
-    EraseErrorBitSet,
-    ProgrammingErrorBitSet,
-    RepliesEnded,
-    LogFull,
-    LentLengthChanged,
-    RepeatedSector,
-    ListTooLong,
-}
-
-// The papers' number of an answer, where it has one: a call that goes on has none.
-#[derive(Clone, Copy, Debug, PartialEq, Eq)]
-pub enum Number {
-    Of(u32),
-    Without,
-}
-
-impl Number {
-    pub fn unwrap_or(self, without: u32) -> u32 {
-        match self {
-            Number::Of(number) => number,
-            Number::Without => without,
-        }
-    }
+    Going = 26,
+    Done = 0,
+    OutOfRange = 1,
+    Alignment = 2,
+    DataTooLarge = 3,
+    NotAligned = 4,
+    CrossesPageBoundary = 5,
+    AddressSpan = 10,
+    FieldTooWide = 12,
+    EraseErrorBitSet = 21,
+    ProgrammingErrorBitSet = 22,
+    RepliesEnded = 23,
+    LogFull = 24,
+    LentLengthChanged = 25,
+    RepeatedSector = 32,
+    ListTooLong = 33,
 }
 
 impl Status {
-    // 0 is said only by a call that is done.
-    pub fn number(self) -> Number {
+    // The number of an answer: a call that goes on has none. 0 is said only by a call that is done.
+    pub fn number(self) -> Option<u32> {
         match self {
-            Status::Going => Number::Without,
-            Status::Done => Number::Of(0),
-            Status::OutOfRange => Number::Of(1),
-            Status::Alignment => Number::Of(2),
-            Status::DataTooLarge => Number::Of(3),
-            Status::NotAligned => Number::Of(4),
-            Status::CrossesPageBoundary => Number::Of(5),
-            Status::AddressSpan => Number::Of(10),
-            Status::FieldTooWide => Number::Of(12),
-            Status::EraseErrorBitSet => Number::Of(21),
-            Status::ProgrammingErrorBitSet => Number::Of(22),
-            Status::RepliesEnded => Number::Of(23),
-            Status::LogFull => Number::Of(24),
-            Status::LentLengthChanged => Number::Of(25),
-            Status::RepeatedSector => Number::Of(32),
-            Status::ListTooLong => Number::Of(33),
+            Status::Going => None,
+            _ => Some(self as u32),
         }
     }
 }
@@ -125,7 +95,8 @@ pub enum Sequel {
     Sectors,
 }
 
-// What comes after what, where calls differ. `erasing` picks the error bit.
+// What comes after what, where calls differ. `erasing` picks the error bit. It is told by values, not by
+// closures: an operation is a plain value that a caller may copy and keep.
 #[derive(Clone, Copy, Debug, PartialEq, Eq)]
 pub struct Script {
     pub after_enable: Stage,
@@ -149,8 +120,7 @@ pub struct Lent {
 #[derive(Clone, Copy, Debug, PartialEq, Eq)]
 pub struct Wanted {
     pub quad: bool,
-    pub set_latency: bool,
-    pub latency: u8,
+    pub latency: Option<u8>,
     pub clear: bool,
     pub protection: u8,
 }
@@ -221,10 +191,7 @@ fn data_frame(words: u32, bytes: u32) -> Frame {
 
 // How many zero words a read needs behind its command.
 fn read_words(chunk: u8, dummy: bool) -> u32 {
-    if dummy {
-        return (chunk as u32 + 4) / 4;
-    }
-    (chunk as u32 + 3) / 4
+    (chunk as u32 + dummy as u32).div_ceil(4)
 }
 
 // One reply more than zero words: the reply to the command word.
@@ -240,388 +207,316 @@ fn program_frame(chunk: u8) -> Frame {
     data_frame(prefill(bytes / 4), bytes + 4)
 }
 
-// No word and no reply: only the count of accesses.
-fn registers_frame(job: Job) -> Frame {
-    let low_level = job.low_level;
-    let sequence = low_level.sequence;
-    let words = sequence.more();
-    Frame {
-        port: qspi::CONFIG,
-        words,
-        bytes: 0,
-        twice: false,
-    }
-}
-
-// The size of a stage's transfer.
-pub fn frame(job: Job, place: Place) -> Frame {
-    let stage = place.stage;
-    let chunk = place.chunk;
-    let reading = job.reading;
-    let dummy = reading.dummy;
-    match stage {
-        Stage::Enable => one_word(qspi::TX_DATA_01),
-        Stage::Disable => one_word(qspi::TX_DATA_01),
-        Stage::Clear => one_word(qspi::TX_DATA_01),
-        Stage::ReadStatus => one_word(qspi::TX_DATA_10),
-        Stage::ReadConfig => one_word(qspi::TX_DATA_10),
-        Stage::WriteStatus => one_word(qspi::TX_DATA_10),
-        Stage::WriteRegisters => one_word(qspi::TX_DATA_11),
-        Stage::ReadId => one_word(qspi::TX_DATA_00),
-        Stage::ReadLongId => Frame {
-            port: qspi::TX_DATA_00,
-            words: 2,
-            bytes: 12,
-            twice: false,
-        },
-        Stage::Erase => one_word(qspi::TX_DATA_00),
-        Stage::Program => program_frame(chunk),
-        Stage::Poll => one_word(qspi::TX_DATA_10),
-        Stage::Read => read_frame(chunk, dummy),
-        Stage::Registers => registers_frame(job),
-        Stage::End => one_word(qspi::TX_DATA_01),
-    }
-}
-
-// Where the chunk at hand begins.
-fn chunk_address(job: Job, place: Place) -> u32 {
-    u32::wrapping_add(job.addr, (place.done as u64 % 0x1_0000_0000) as u32)
-}
-
-fn read_word(job: Job, place: Place) -> u32 {
-    let reading = job.reading;
-    let addr = chunk_address(job, place);
-    if reading.fast {
-        words::command_word(RegisterId::FastRead, addr)
-    } else {
-        words::command_word(RegisterId::Read, addr)
-    }
-}
-
 // The sector of a list after those finished. A list is lent as data, a byte a sector: its number.
 fn listed_sector(data: &[u8], done: usize) -> u32 {
-    if done < data.len() {
-        limits::sector_start(data[done])
-    } else {
-        0
-    }
-}
-
-// The sector to erase: the call's own, or that of its list.
-fn sector_address(job: Job, place: Place, data: &[u8]) -> u32 {
-    let script = job.script;
-    let sequel = script.sequel;
-    match sequel {
-        Sequel::Once => job.addr,
-        Sequel::Pages => job.addr,
-        Sequel::Sectors => listed_sector(data, place.done),
-    }
-}
-
-// The command word of a stage.
-fn first_word(job: Job, place: Place, data: &[u8]) -> u32 {
-    let stage = place.stage;
-    let sr = place.sr;
-    let cr = place.cr;
-    match stage {
-        Stage::Enable => words::command_only(RegisterId::WriteEnable),
-        Stage::Disable => words::command_only(RegisterId::WriteDisable),
-        Stage::Clear => words::command_only(RegisterId::ClearStatus),
-        Stage::ReadStatus => words::command_only(RegisterId::ReadStatus1),
-        Stage::ReadConfig => words::command_only(RegisterId::ReadConfig),
-        Stage::WriteStatus => words::write_status_word(sr),
-        Stage::WriteRegisters => words::write_registers_word(sr, cr),
-        Stage::ReadId => words::command_only(RegisterId::ReadId),
-        Stage::ReadLongId => words::command_only(RegisterId::ReadId),
-        Stage::Erase => {
-            words::command_word(RegisterId::SectorErase, sector_address(job, place, data))
-        }
-        Stage::Program => words::command_word(RegisterId::PageProgram, chunk_address(job, place)),
-        Stage::Poll => words::command_only(RegisterId::ReadStatus1),
-        Stage::Read => read_word(job, place),
-        Stage::Registers => 0,
-        Stage::End => 0,
+    match data.get(done) {
+        Some(number) => limits::sector_start(*number),
+        None => 0,
     }
 }
 
 // Four bytes of the data, low byte first; past its end 0.
 fn data_word(data: &[u8], at: u64) -> u32 {
-    if data.len() < 4 {
+    if data.len() as u64 <= at {
         return 0;
     }
-    if at <= (data.len() - 4) as u64 {
-        let i = at as usize;
-        words::data_word(data[i], data[i + 1], data[i + 2], data[i + 3])
-    } else {
-        0
+    match &data[at as usize..] {
+        [a, b, c, d, ..] => words::data_word(*a, *b, *c, *d),
+        _ => 0,
     }
 }
 
-// The words after the first: `program` sends its data, the long id and the reads send zeros.
-fn further_word(place: Place, index: u32, data: &[u8]) -> u32 {
-    let stage = place.stage;
-    let at = u64::wrapping_add(place.done as u64, index as u64 * 4);
-    match stage {
-        Stage::Enable => 0,
-        Stage::Disable => 0,
-        Stage::Clear => 0,
-        Stage::ReadStatus => 0,
-        Stage::ReadConfig => 0,
-        Stage::WriteStatus => 0,
-        Stage::WriteRegisters => 0,
-        Stage::ReadId => 0,
-        Stage::ReadLongId => 0,
-        Stage::Erase => 0,
-        Stage::Program => data_word(data, at),
-        Stage::Poll => 0,
-        Stage::Read => 0,
-        Stage::Registers => 0,
-        Stage::End => 0,
-    }
+// How many bytes the next chunk of a read has.
+pub fn next_chunk(length: usize, done: usize, dummy: bool) -> u8 {
+    limits::read_chunk(length.saturating_sub(done), dummy)
 }
 
-// The word that is sent after so many others.
-pub fn due_word(job: Job, place: Place, sent: u32, data: &[u8]) -> u32 {
-    if sent == 0 {
-        first_word(job, place, data)
-    } else {
-        further_word(place, sent - 1, data)
-    }
+// How many bytes the next chunk of `write_pages` has.
+fn page_chunk(length: usize, done: usize) -> u8 {
+    limits::page_chunk(length.saturating_sub(done))
 }
 
 // A stage that is a transfer goes on; the end is done.
 fn status_of(stage: Stage) -> Status {
-    if let Stage::End = stage {
+    if stage == Stage::End {
         Status::Done
     } else {
         Status::Going
     }
 }
 
-// The next stage, with what the place holds.
-pub fn begun(place: Place, stage: Stage) -> Turned {
-    let status = status_of(stage);
-    let place = Place {
-        stage,
-        done: place.done,
-        chunk: place.chunk,
-        sr: place.sr,
-        cr: place.cr,
-    };
-    Turned { place, status }
-}
+impl Place {
+    // The next stage, with what the place holds.
+    pub fn begun(self, stage: Stage) -> Turned {
+        Turned {
+            place: Place { stage, ..self },
+            status: status_of(stage),
+        }
+    }
 
-// No stage comes after this one.
-pub fn ended(place: Place, status: Status) -> Turned {
-    let place = Place {
-        stage: Stage::End,
-        done: place.done,
-        chunk: place.chunk,
-        sr: place.sr,
-        cr: place.cr,
-    };
-    Turned { place, status }
-}
+    // No stage comes after this one.
+    pub fn ended(self, status: Status) -> Turned {
+        let place = Place {
+            stage: Stage::End,
+            ..self
+        };
+        Turned { place, status }
+    }
 
-fn with_registers(place: Place, sr: u8, cr: u8) -> Place {
-    let stage = place.stage;
-    Place {
-        stage,
-        done: place.done,
-        chunk: place.chunk,
-        sr,
-        cr,
+    fn with_registers(self, sr: u8, cr: u8) -> Place {
+        Place { sr, cr, ..self }
+    }
+
+    // The place with so much more done.
+    fn grown(self, more: usize) -> Place {
+        Place {
+            done: self.done.wrapping_add(more),
+            ..self
+        }
+    }
+
+    // The words after the first: `program` sends its data, the long id and the reads send zeros.
+    fn further_word(self, index: u32, data: &[u8]) -> u32 {
+        if self.stage == Stage::Program {
+            data_word(data, (self.done as u64).wrapping_add(index as u64 * 4))
+        } else {
+            0
+        }
     }
 }
 
-// How many bytes the next chunk of a read has.
-pub fn next_chunk(length: usize, done: usize, dummy: bool) -> u8 {
-    if length <= done {
-        return 0;
-    }
-    limits::read_chunk(length - done, dummy)
-}
-
-// A chunk of a read is done: the next one, or the end.
-fn read_on(job: Job, place: Place) -> Turned {
-    let lent = job.lent;
-    let reading = job.reading;
-    let done = usize::wrapping_add(place.done, place.chunk as usize);
-    let chunk = next_chunk(lent.buffer, done, reading.dummy);
-    let next = Place {
-        stage: Stage::Read,
-        done,
-        chunk,
-        sr: place.sr,
-        cr: place.cr,
-    };
-    if chunk == 0 {
-        ended(next, Status::Done)
-    } else {
-        begun(next, Stage::Read)
+impl Script {
+    // Whether the status byte shows the error bit of the work at hand.
+    fn has_failed(self, status: u8) -> bool {
+        if self.erasing {
+            StatusRegister1(status).erase_error()
+        } else {
+            StatusRegister1(status).programming_error()
+        }
     }
 }
 
-// How many bytes the next chunk of `write_pages` has.
-fn page_chunk(length: usize, done: usize) -> u8 {
-    if length <= done {
-        return 0;
+impl Wanted {
+    // `new` has read both registers: it writes them where something asked for is not so yet.
+    fn configure(self, place: Place, sr: u8) -> Turned {
+        let Wanted {
+            quad,
+            latency,
+            clear,
+            ..
+        } = self;
+        let cr = place.cr;
+        if registers::update_needed(quad, latency, clear, cr, sr) {
+            let next = place.with_registers(
+                registers::configured_sr(clear, sr),
+                registers::configured_cr(quad, latency, cr),
+            );
+            next.begun(Stage::Enable)
+        } else {
+            place.ended(Status::Done)
+        }
     }
-    limits::page_chunk(length - done)
-}
 
-// The chunk of `write_pages` after the bytes done: its write enable, or the end, or what `program`
-// refuses it for, 4 before 5. 1 was tested on the whole length, and no chunk is too large for 3.
-pub fn next_page(job: Job, place: Place) -> Turned {
-    let lent = job.lent;
-    let data = lent.data;
-    let chunk = page_chunk(data, place.done);
-    let next = Place {
-        stage: Stage::Enable,
-        done: place.done,
-        chunk,
-        sr: place.sr,
-        cr: place.cr,
-    };
-    if chunk == 0 {
-        return ended(next, Status::Done);
-    }
-    if chunk % 4 != 0 {
-        return ended(next, Status::NotAligned);
-    }
-    if limits::crosses_page(chunk_address(job, next), chunk as usize) {
-        return ended(next, Status::CrossesPageBoundary);
-    }
-    begun(next, Stage::Enable)
-}
-
-// The sector of a list after those finished: its write enable, or the end. Its rules were tested before
-// the first access.
-pub fn next_sector(job: Job, place: Place) -> Turned {
-    let lent = job.lent;
-    if place.done < lent.data {
-        begun(place, Stage::Enable)
-    } else {
-        ended(place, Status::Done)
+    fn protect(self, place: Place, sr: u8) -> Turned {
+        let next = place.with_registers(registers::protected(sr, self.protection), place.cr);
+        next.begun(Stage::ReadConfig)
     }
 }
 
-// The place with so much more done.
-fn grow(place: Place, more: usize) -> Place {
-    let stage = place.stage;
-    Place {
-        stage,
-        done: usize::wrapping_add(place.done, more),
-        chunk: place.chunk,
-        sr: place.sr,
-        cr: place.cr,
+// The transfers of a call, and what comes after each. The place is the call's own.
+impl Job {
+    // The size of a stage's transfer.
+    pub fn frame(self, place: Place) -> Frame {
+        match place.stage {
+            Stage::Enable | Stage::Disable | Stage::Clear | Stage::End => {
+                one_word(qspi::TX_DATA_01)
+            }
+            Stage::ReadStatus | Stage::ReadConfig | Stage::WriteStatus | Stage::Poll => {
+                one_word(qspi::TX_DATA_10)
+            }
+            Stage::WriteRegisters => one_word(qspi::TX_DATA_11),
+            Stage::ReadId | Stage::Erase => one_word(qspi::TX_DATA_00),
+            Stage::ReadLongId => Frame {
+                port: qspi::TX_DATA_00,
+                words: 2,
+                bytes: 12,
+                twice: false,
+            },
+            Stage::Program => program_frame(place.chunk),
+            Stage::Read => read_frame(place.chunk, self.reading.dummy),
+            Stage::Registers => self.registers_frame(),
+        }
     }
-}
 
-// Program or erase has ended clean. Only here do the bytes of a chunk count as programmed, and a sector of
-// a list as finished.
-fn settle(job: Job, place: Place) -> Turned {
-    let script = job.script;
-    let sequel = script.sequel;
-    match sequel {
-        Sequel::Once => ended(place, Status::Done),
-        Sequel::Pages => next_page(job, grow(place, place.chunk as usize)),
-        Sequel::Sectors => next_sector(job, grow(place, 1)),
+    // No word and no reply: only the count of accesses.
+    fn registers_frame(self) -> Frame {
+        Frame {
+            port: qspi::CONFIG,
+            words: self.low_level.sequence.more(),
+            bytes: 0,
+            twice: false,
+        }
     }
-}
 
-// Whether the status byte shows the error bit of the work at hand.
-fn has_failed(script: Script, status: u8) -> bool {
-    if script.erasing {
-        StatusRegister1(status).erase_error()
-    } else {
-        StatusRegister1(status).programming_error()
+    // The word that is sent after so many others.
+    pub fn due_word(self, place: Place, sent: u32, data: &[u8]) -> u32 {
+        if sent == 0 {
+            self.first_word(place, data)
+        } else {
+            place.further_word(sent - 1, data)
+        }
     }
-}
 
-// The status after program or erase: the error bit first, then bit 0.
-fn poll_end(job: Job, place: Place, status: u8) -> Turned {
-    let script = job.script;
-    if has_failed(script, status) {
-        return begun(place, Stage::Clear);
+    // The command word of a stage.
+    fn first_word(self, place: Place, data: &[u8]) -> u32 {
+        match place.stage {
+            Stage::Enable => words::command_only(RegisterId::WriteEnable),
+            Stage::Disable => words::command_only(RegisterId::WriteDisable),
+            Stage::Clear => words::command_only(RegisterId::ClearStatus),
+            Stage::ReadStatus | Stage::Poll => words::command_only(RegisterId::ReadStatus1),
+            Stage::ReadConfig => words::command_only(RegisterId::ReadConfig),
+            Stage::WriteStatus => words::write_status_word(place.sr),
+            Stage::WriteRegisters => words::write_registers_word(place.sr, place.cr),
+            Stage::ReadId | Stage::ReadLongId => words::command_only(RegisterId::ReadId),
+            Stage::Erase => {
+                words::command_word(RegisterId::SectorErase, self.sector_address(place, data))
+            }
+            Stage::Program => {
+                words::command_word(RegisterId::PageProgram, self.chunk_address(place))
+            }
+            Stage::Read => self.read_word(place),
+            Stage::Registers | Stage::End => 0,
+        }
     }
-    if StatusRegister1(status).write_in_progress() {
-        return begun(place, Stage::Poll);
+
+    // Where the chunk at hand begins.
+    fn chunk_address(self, place: Place) -> u32 {
+        let done = (place.done as u64 % 0x1_0000_0000) as u32;
+        self.addr.wrapping_add(done)
     }
-    settle(job, place)
-}
 
-// `new` has read both registers: it writes them where something asked for is not so yet.
-fn configure(wanted: Wanted, place: Place, sr: u8) -> Turned {
-    let quad = wanted.quad;
-    let set_latency = wanted.set_latency;
-    let latency = wanted.latency;
-    let clear = wanted.clear;
-    let cr = place.cr;
-    if registers::update_needed(quad, set_latency, latency, clear, cr, sr) {
-        let next = with_registers(
-            place,
-            registers::configured_sr(clear, sr),
-            registers::configured_cr(quad, set_latency, latency, cr),
-        );
-        begun(next, Stage::Enable)
-    } else {
-        ended(place, Status::Done)
+    fn read_word(self, place: Place) -> u32 {
+        let addr = self.chunk_address(place);
+        if self.reading.fast {
+            words::command_word(RegisterId::FastRead, addr)
+        } else {
+            words::command_word(RegisterId::Read, addr)
+        }
     }
-}
 
-fn protect(wanted: Wanted, place: Place, sr: u8) -> Turned {
-    let cr = place.cr;
-    let next = with_registers(place, registers::protected(sr, wanted.protection), cr);
-    begun(next, Stage::ReadConfig)
-}
-
-// The status was read.
-fn status_read(job: Job, place: Place, sr: u8) -> Turned {
-    let script = job.script;
-    let purpose = script.purpose;
-    let wanted = job.wanted;
-    match purpose {
-        Purpose::Answer => ended(place, Status::Done),
-        Purpose::Configure => configure(wanted, place, sr),
-        Purpose::Protect => protect(wanted, place, sr),
+    // The sector to erase: the call's own, or that of its list.
+    fn sector_address(self, place: Place, data: &[u8]) -> u32 {
+        match self.script.sequel {
+            Sequel::Once | Sequel::Pages => self.addr,
+            Sequel::Sectors => listed_sector(data, place.done),
+        }
     }
-}
 
-// The config register was read.
-fn config_read(job: Job, place: Place, cr: u8) -> Turned {
-    let script = job.script;
-    let purpose = script.purpose;
-    let sr = place.sr;
-    match purpose {
-        Purpose::Answer => ended(place, Status::Done),
-        Purpose::Configure => begun(with_registers(place, sr, cr), Stage::ReadStatus),
-        Purpose::Protect => begun(with_registers(place, sr, cr), Stage::Enable),
+    // A transfer is over; `reply` is the last one taken.
+    pub fn turn(self, place: Place, reply: u32) -> Turned {
+        match place.stage {
+            Stage::Enable => place.begun(self.script.after_enable),
+            Stage::Disable => place.ended(self.script.after_disable),
+            Stage::Clear => place.begun(self.script.after_clear),
+            Stage::ReadStatus => self.status_read(place, words::top_byte(reply)),
+            Stage::ReadConfig => self.config_read(place, words::top_byte(reply)),
+            Stage::Erase | Stage::Program => place.begun(Stage::Poll),
+            Stage::Poll => self.poll_end(place, words::top_byte(reply)),
+            Stage::Read => self.read_on(place),
+            Stage::WriteStatus
+            | Stage::WriteRegisters
+            | Stage::ReadId
+            | Stage::ReadLongId
+            | Stage::Registers
+            | Stage::End => place.ended(Status::Done),
+        }
     }
-}
 
-// A transfer is over; `reply` is the last one taken.
-pub fn turn(job: Job, place: Place, reply: u32) -> Turned {
-    let stage = place.stage;
-    let script = job.script;
-    let after_enable = script.after_enable;
-    let after_clear = script.after_clear;
-    let after_disable = script.after_disable;
-    match stage {
-        Stage::Enable => begun(place, after_enable),
-        Stage::Disable => ended(place, after_disable),
-        Stage::Clear => begun(place, after_clear),
-        Stage::ReadStatus => status_read(job, place, words::top_byte(reply)),
-        Stage::ReadConfig => config_read(job, place, words::top_byte(reply)),
-        Stage::WriteStatus => ended(place, Status::Done),
-        Stage::WriteRegisters => ended(place, Status::Done),
-        Stage::ReadId => ended(place, Status::Done),
-        Stage::ReadLongId => ended(place, Status::Done),
-        Stage::Erase => begun(place, Stage::Poll),
-        Stage::Program => begun(place, Stage::Poll),
-        Stage::Poll => poll_end(job, place, words::top_byte(reply)),
-        Stage::Read => read_on(job, place),
-        Stage::Registers => ended(place, Status::Done),
-        Stage::End => ended(place, Status::Done),
+    // The status was read.
+    fn status_read(self, place: Place, sr: u8) -> Turned {
+        match self.script.purpose {
+            Purpose::Answer => place.ended(Status::Done),
+            Purpose::Configure => self.wanted.configure(place, sr),
+            Purpose::Protect => self.wanted.protect(place, sr),
+        }
+    }
+
+    // The config register was read.
+    fn config_read(self, place: Place, cr: u8) -> Turned {
+        let next = place.with_registers(place.sr, cr);
+        match self.script.purpose {
+            Purpose::Answer => place.ended(Status::Done),
+            Purpose::Configure => next.begun(Stage::ReadStatus),
+            Purpose::Protect => next.begun(Stage::Enable),
+        }
+    }
+
+    // The status after program or erase: the error bit first, then bit 0.
+    fn poll_end(self, place: Place, status: u8) -> Turned {
+        if self.script.has_failed(status) {
+            return place.begun(Stage::Clear);
+        }
+        if StatusRegister1(status).write_in_progress() {
+            return place.begun(Stage::Poll);
+        }
+        self.settle(place)
+    }
+
+    // Program or erase has ended clean. Only here do the bytes of a chunk count as programmed, and a
+    // sector of a list as finished.
+    fn settle(self, place: Place) -> Turned {
+        match self.script.sequel {
+            Sequel::Once => place.ended(Status::Done),
+            Sequel::Pages => self.next_page(place.grown(place.chunk as usize)),
+            Sequel::Sectors => self.next_sector(place.grown(1)),
+        }
+    }
+
+    // A chunk of a read is done: the next one, or the end.
+    fn read_on(self, place: Place) -> Turned {
+        let done = place.done.wrapping_add(place.chunk as usize);
+        let chunk = next_chunk(self.lent.buffer, done, self.reading.dummy);
+        let next = Place {
+            stage: Stage::Read,
+            done,
+            chunk,
+            ..place
+        };
+        if chunk == 0 {
+            next.ended(Status::Done)
+        } else {
+            next.begun(Stage::Read)
+        }
+    }
+
+    // The chunk of `write_pages` after the bytes done: its write enable, or the end, or what `program`
+    // refuses it for, 4 before 5. 1 was tested on the whole length, and no chunk is too large for 3.
+    pub fn next_page(self, place: Place) -> Turned {
+        let chunk = page_chunk(self.lent.data, place.done);
+        let next = Place {
+            stage: Stage::Enable,
+            chunk,
+            ..place
+        };
+        if chunk == 0 {
+            return next.ended(Status::Done);
+        }
+        if chunk % 4 != 0 {
+            return next.ended(Status::NotAligned);
+        }
+        if limits::crosses_page(self.chunk_address(next), chunk as usize) {
+            return next.ended(Status::CrossesPageBoundary);
+        }
+        next.begun(Stage::Enable)
+    }
+
+    // The sector of a list after those finished: its write enable, or the end. Its rules were tested before
+    // the first access.
+    pub fn next_sector(self, place: Place) -> Turned {
+        if place.done < self.lent.data {
+            place.begun(Stage::Enable)
+        } else {
+            place.ended(Status::Done)
+        }
     }
 }

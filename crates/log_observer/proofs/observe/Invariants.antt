@@ -1,10 +1,5 @@
-use Rattle.std.proofs.Common.{◌-◌}
 use Rattle.log_observer.proofs.Following.{Following}
 use Rattle.log_observer.proofs.observe.Given as goal
 
 abbrev pub invariant-loop-at : goal.invariant-loop-at
 invariant-loop-at l = Following l.log l.accesses l.watch l.at
-
--- proposed from the loop's first test
-abbrev pub decreases-loop-at : goal.decreases-loop-at
-decreases-loop-at l = l.accesses - l.at

@@ -1,4 +1,3 @@
-use Rattle.std.proofs.Common.{◌-◌}
 use Rattle.power_cut.proofs.erase_sectors.Goals as goal
 use Rattle.power_cut.proofs.SectorPromised as promise
 
@@ -6,7 +5,7 @@ use Rattle.power_cut.proofs.SectorPromised as promise
 pub returns-clause-answer : goal.returns-clause-answer
 returns-clause-answer c =
     let p =
-    promise.promised c.args.list.now c.args.replies.now c.args.log.now c.erase_sectors-op.ensures.begins c.numbered-numbers.ensures.numbers c.lent-count.ensures.count c.run-s.ensures.follows
+    promise.promised c.args.list.now c.args.replies.now c.args.log.now c.erase_sectors-op.ensures.begins c.numbered-numbers.ensures.numbers c.min-count.ensures c.run-s.ensures.follows
     c.counted-finished.ensures.count c.value-place.ensures.value c.finish-ran.ensures.ran in
     p.answer
 
@@ -14,7 +13,7 @@ returns-clause-answer c =
 pub returns-clause-place : goal.returns-clause-place
 returns-clause-place c =
     let p =
-    promise.promised c.args.list.now c.args.replies.now c.args.log.now c.erase_sectors-op.ensures.begins c.numbered-numbers.ensures.numbers c.lent-count.ensures.count c.run-s.ensures.follows
+    promise.promised c.args.list.now c.args.replies.now c.args.log.now c.erase_sectors-op.ensures.begins c.numbered-numbers.ensures.numbers c.min-count.ensures c.run-s.ensures.follows
     c.counted-finished.ensures.count c.value-place.ensures.value c.finish-ran.ensures.ran in
     p.place
 
@@ -22,7 +21,7 @@ returns-clause-place c =
 pub returns-clause-logged : goal.returns-clause-logged
 returns-clause-logged c =
     let p =
-    promise.promised c.args.list.now c.args.replies.now c.args.log.now c.erase_sectors-op.ensures.begins c.numbered-numbers.ensures.numbers c.lent-count.ensures.count c.run-s.ensures.follows
+    promise.promised c.args.list.now c.args.replies.now c.args.log.now c.erase_sectors-op.ensures.begins c.numbered-numbers.ensures.numbers c.min-count.ensures c.run-s.ensures.follows
     c.counted-finished.ensures.count c.value-place.ensures.value c.finish-ran.ensures.ran in
     p.logged
 
@@ -30,7 +29,7 @@ returns-clause-logged c =
 pub returns-clause-singles : goal.returns-clause-singles
 returns-clause-singles c =
     let p =
-    promise.promised c.args.list.now c.args.replies.now c.args.log.now c.erase_sectors-op.ensures.begins c.numbered-numbers.ensures.numbers c.lent-count.ensures.count c.run-s.ensures.follows
+    promise.promised c.args.list.now c.args.replies.now c.args.log.now c.erase_sectors-op.ensures.begins c.numbered-numbers.ensures.numbers c.min-count.ensures c.run-s.ensures.follows
     c.counted-finished.ensures.count c.value-place.ensures.value c.finish-ran.ensures.ran in
     promise.single c.args.list.now c.args.replies.now c.args.log.now p
 
@@ -38,6 +37,6 @@ returns-clause-singles c =
 pub returns-clause-shown : goal.returns-clause-shown
 returns-clause-shown c =
     let p =
-    promise.promised c.args.list.now c.args.replies.now c.args.log.now c.erase_sectors-op.ensures.begins c.numbered-numbers.ensures.numbers c.lent-count.ensures.count c.run-s.ensures.follows
+    promise.promised c.args.list.now c.args.replies.now c.args.log.now c.erase_sectors-op.ensures.begins c.numbered-numbers.ensures.numbers c.min-count.ensures c.run-s.ensures.follows
     c.counted-finished.ensures.count c.value-place.ensures.value c.finish-ran.ensures.ran in
     promise.cleared c.args.list.now c.args.replies.now c.args.log.now p

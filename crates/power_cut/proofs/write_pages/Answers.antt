@@ -1,4 +1,3 @@
-use Rattle.std.proofs.Common.{◌-◌}
 use native.Mathlib.Omega.{arith}
 use Rattle.power_cut.proofs.write_pages.Goals as goal
 use Rattle.power_cut.proofs.Promised as promise

@@ -1,8 +1,7 @@
-use Rattle.qspi_operation.specs.Machine.{called}
 use Rattle.qspi_abi.proofs.command.Goals as goal
 use Rattle.qspi_abi.proofs.Outputs as outputs
 
 -- src/lib.rt:185:1
 pub returns : goal.returns
 returns c =
-    record { called = outputs.commanded c.command.ensures.follows c.ran_out.ensures.numbers }
+    record { called = outputs.commanded c.command.ensures.follows c.from.ensures }

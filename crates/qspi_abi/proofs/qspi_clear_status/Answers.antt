@@ -1,5 +1,3 @@
-use Rattle.std.proofs.Common.{◌-◌}
-use Rattle.qspi_operation.specs.Machine.{called}
 use Rattle.qspi_calls.specs.Calls as call
 use Rattle.qspi_abi.proofs.qspi_clear_status.Goals as goal
 

@@ -1,4 +1,3 @@
-use Rattle.std.proofs.Common.{◌-◌}
 use Rattle.qspi_calls.specs.Calls as call
 use Rattle.qspi_abi.proofs.qspi_program.Goals as goal
 use Rattle.qspi_abi.proofs.Outputs as outputs
@@ -7,4 +6,4 @@ use Rattle.qspi_abi.proofs.Outputs as outputs
 pub returns : goal.returns
 returns c =
     let x = c.args in
-    let both = outputs.programmed (call.program x.addr) c.program-op.ensures.begins c.run.ensures.follows c.ran_out.ensures.numbers in record { ran = both.0; logged = both.1 }
+    let both = outputs.programmed (call.program x.addr) c.program-op.ensures.begins c.run.ensures.follows c.from.ensures in record { ran = both.0; logged = both.1 }

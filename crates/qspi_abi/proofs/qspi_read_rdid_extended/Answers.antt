@@ -1,4 +1,3 @@
-use Rattle.std.proofs.Common.{◌-◌}
 use mathlib.Core.Path.{ap}
 use Rattle.qspi_operation.specs.declared.Op.{Op}
 use Rattle.qspi_calls.specs.Calls as call

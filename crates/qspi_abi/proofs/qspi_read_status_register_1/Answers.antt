@@ -1,5 +1,3 @@
-use Rattle.std.proofs.Common.{◌-◌}
-use Rattle.qspi_operation.specs.Machine.{called}
 use Rattle.qspi_calls.specs.Calls as call
 use Rattle.qspi_abi.proofs.qspi_read_status_register_1.Goals as goal
 

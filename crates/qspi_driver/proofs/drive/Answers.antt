@@ -1,4 +1,3 @@
-use Rattle.std.proofs.Common.{◌-◌}
 use Rattle.qspi_driver.specs.Driver.{Drive}
 use mathlib.Core.Path.{ap, ◌∙◌}
 use Rattle.qspi_driver.proofs.Driving.{driven_of_lem}

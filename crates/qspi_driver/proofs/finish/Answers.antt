@@ -1,4 +1,3 @@
-use Rattle.std.proofs.Common.{true, false, ◌-◌}
 use Rattle.qspi_driver.specs.Driver.{driver_of, Drive}
 use mathlib.Core.Path.{sym, ap, ◌∙◌}
 use Rattle.qspi_driver.specs.declared.state.Acted.{Acted}

@@ -1,4 +1,3 @@
-use Rattle.std.proofs.Common.{◌-◌}
 use Rattle.qspi_driver.specs.Driver.{driver_of}
 use Rattle.qspi_driver.proofs.Driving.{Good, steps}
 use Rattle.qspi_driver.proofs.finish.Given as goal

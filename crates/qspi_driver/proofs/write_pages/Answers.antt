@@ -1,4 +1,3 @@
-use Rattle.std.proofs.Common.{◌-◌}
 use native.Mathlib.Omega.{arith}
 use Rattle.qspi_driver.proofs.write_pages.Goals as goal
 use Rattle.qspi_driver.proofs.Saving as saving

@@ -1,19 +1,12 @@
-use Rattle.std.proofs.Common.{◌-◌, true, false, eq-eqb, ne_eqb}
-use Rattle.qspi_operation.specs.Step.{is_going, shown, going}
-use Rattle.qspi_operation.proofs.Following.{with_due}
+use Rattle.std.proofs.Common.{eq-eqb, ne_eqb}
+use Rattle.qspi_operation.proofs.Following.{on_due}
 use Rattle.qspi_operation.proofs.due.Goals as goal
 
--- src/lib.rt:185:1
-pub returns-then-data-lent-clause-follows : goal.returns-then-data-lent-clause-follows
-returns-then-data-lent-clause-follows c =
-    let both = with_due _ _ (simp (c.show.ensures.shown, c.access.ensures.due, eq-eqb _ _ c.if-data-lent.true, c.if-is_going.true, ← c.is_going.ensures.going)) in both.1
+pub returns-then-not-is_going-clause-follows : goal.returns-then-not-is_going-clause-follows
+returns-then-not-is_going-clause-follows c = on_due _ _ (simp (c.if-not-is_going.true, ← c.is_going.ensures.going))
 
--- src/lib.rt:185:1
-pub returns-else-data-lent-clause-follows : goal.returns-else-data-lent-clause-follows
-returns-else-data-lent-clause-follows c =
-    let both = with_due _ _ (simp (ne_eqb _ _ c.if-data-lent.false, c.if-is_going.true, ← c.is_going.ensures.going)) in both.1
+pub returns-then-data-op-clause-follows : goal.returns-then-data-op-clause-follows
+returns-then-data-op-clause-follows c = on_due _ _ (simp (ne_eqb _ _ c.if-data-op.true, c.if-not-is_going.false, ← c.is_going.ensures.going))
 
--- src/lib.rt:185:1
-pub returns-else-is_going-clause-follows : goal.returns-else-is_going-clause-follows
-returns-else-is_going-clause-follows c =
-    let both = with_due _ _ (simp (c.if-is_going.false, ← c.is_going.ensures.going)) in both.1
+pub returns-clause-follows : goal.returns-clause-follows
+returns-clause-follows c = on_due _ _ (simp (c.access.ensures.due, eq-eqb _ _ c.if-data-op.false, c.if-not-is_going.false, ← c.is_going.ensures.going))

@@ -1,5 +1,5 @@
-use Rattle.std.proofs.Common.{◌-◌, false, sym, ap, ◌∙◌}
-use Rattle.qspi_operation.specs.Step.{is_going, going}
+use Rattle.std.proofs.Common.{sym, ap, ◌∙◌}
+use Rattle.qspi_operation.specs.Step.{is_going}
 use Rattle.qspi_operation.specs.Run.{Run}
 use Rattle.qspi_operation.proofs.Runs.{halted}
 use Rattle.qspi_operation.proofs.Following.{with_run}

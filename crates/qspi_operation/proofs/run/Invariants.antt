@@ -1,4 +1,4 @@
-use Rattle.std.proofs.Common.{◌≡◌, length, ◌-◌, true}
+use Rattle.std.proofs.Common.{◌≡◌, length, true}
 use Rattle.qspi_script.specs.declared.Status.TheVariants.{Going}
 use Rattle.qspi_operation.specs.Step.{is_going}
 use Rattle.qspi_operation.specs.Pass.{left}

@@ -1,17 +1,34 @@
-use Rattle.std.proofs.Common.{◌-◌, true, sym, ◌∙◌}
-use Rattle.qspi_operation.specs.Pass.{is_on, op_at}
-use Rattle.qspi_operation.specs.declared.How.TheVariants.{On}
-use Rattle.qspi_operation.proofs.Passes.{passed_at, passing}
+use Rattle.std.proofs.Common.{◌-◌, sym, ap, ◌∙◌}
+use Rattle.std.specs.Prelude.{Option, Ok, Err}
+use Rattle.qspi_transfer.specs.declared.Wire.{Wire}
+use Rattle.qspi_operation.specs.Step.{moved_by}
+use Rattle.qspi_operation.proofs.Passes.{at, onward, goes}
 use Rattle.qspi_operation.proofs.transfer.Goals as goal
 
--- src/lib.rt:489:5
-pub loop-how-smaller : goal.loop-how-smaller
-loop-how-smaller c = (let x = c.args in
-    let l = c.loop-how in
-    passing (op_at x.op.job x.op.place (passed_at x.op.wire x.op.used x.op.replies On)) x.op.job x.op.place l.wire l.used l.taken l.how x.«data».now x.replies.now x.buffer.now x.log.now l.buffer l.log c.pass-x.result c.pass-x.new.buffer c.pass-x.new.log (sym c.is_on.ensures.on ∙ c.loop-how-test.true) l.invariant c.pass-x.ensures.stands c.pass-x.ensures.logged c.pass-x.ensures.stored).less
+pub returns-in-Err : goal.returns-in-Err
+returns-in-Err c =
+    let x = c.args in
+    let y = c.loop-passed in
+    record { onward = onward x.op x.«data».now x.replies.now x.buffer.now x.log.now (at x.op y.wire y.used y.taken) y.buffer y.log y.invariant c.pass.new.buffer c.pass.new.log (Err c.in-Err.why) (c.in-Err.ensures.stands, (c.in-Err.ensures.logged, c.in-Err.ensures.stored)) c.refused.ensures.stepped }
 
--- src/lib.rt:489:5
-pub loop-how-preserved : goal.loop-how-preserved
-loop-how-preserved c = (let x = c.args in
-    let l = c.loop-how in
-    passing (op_at x.op.job x.op.place (passed_at x.op.wire x.op.used x.op.replies On)) x.op.job x.op.place l.wire l.used l.taken l.how x.«data».now x.replies.now x.buffer.now x.log.now l.buffer l.log c.pass-x.result c.pass-x.new.buffer c.pass-x.new.log (sym c.is_on.ensures.on ∙ c.loop-how-test.true) l.invariant c.pass-x.ensures.stands c.pass-x.ensures.logged c.pass-x.ensures.stored).way
+pub returns-in_default : goal.returns-in_default
+returns-in_default c =
+    let x = c.args in
+    let y = c.loop-passed in
+    let p = c.in-Ok.passed in
+    record {
+      onward = onward x.op x.«data».now x.replies.now x.buffer.now x.log.now (at x.op y.wire y.used y.taken) y.buffer y.log y.invariant c.pass.new.buffer c.pass.new.log (Ok p) (c.in-Ok.ensures.stands, (c.in-Ok.ensures.logged, c.in-Ok.ensures.stored))
+          (c.turned.ensures.stepped ∙ sym (ap (λ (z : Option Wire). moved_by z (at x.op y.wire y.used y.taken) p.used p.replies) c.in_default.is));
+    }
+
+pub loop-passed-smaller : goal.loop-passed-smaller
+loop-passed-smaller c =
+    let x = c.args in
+    let y = c.loop-passed in
+    (goes x.op x.«data».now x.replies.now x.buffer.now x.log.now (at x.op y.wire y.used y.taken) y.buffer y.log y.invariant c.pass.new.buffer c.pass.new.log c.in-Ok.passed c.in-Some.next (c.in-Ok.ensures.stands, (c.in-Ok.ensures.logged, c.in-Ok.ensures.stored)) c.in-Some.is).less
+
+pub loop-passed-preserved : goal.loop-passed-preserved
+loop-passed-preserved c =
+    let x = c.args in
+    let y = c.loop-passed in
+    (goes x.op x.«data».now x.replies.now x.buffer.now x.log.now (at x.op y.wire y.used y.taken) y.buffer y.log y.invariant c.pass.new.buffer c.pass.new.log c.in-Ok.passed c.in-Some.next (c.in-Ok.ensures.stands, (c.in-Ok.ensures.logged, c.in-Ok.ensures.stored)) c.in-Some.is).way

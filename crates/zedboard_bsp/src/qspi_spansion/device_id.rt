@@ -5,45 +5,70 @@ ghost use Rattle.zedboard_bsp.specs.DeviceId.{interface_codes, interface_answer,
 
 use crate::qspi_spansion::words;
 
+// A byte that the Rust doesn't list as a code (refusal 11).
+#[derive(Clone, Copy, Debug, PartialEq, Eq)]
+pub struct UnknownCode(pub u8);
+
 #[derive(Clone, Copy)]
 pub enum MemoryInterfaceType {
-    _128Mb,
-    _256Mb,
+    _128Mb = 0x20,
+    _256Mb = 0x02,
 }
 
-// The type of a code, or the byte that is none (refusal 11).
-#[derive(Clone, Copy)]
-pub enum MemoryInterfaceTypeCode {
-    Known(MemoryInterfaceType),
-    UnknownCode(u8),
+impl TryFrom<u8> for MemoryInterfaceType {
+    type Error = UnknownCode;
+
+    ghost try_from_gives = { λ code r. interface_answer r ≡ code_answer interface_codes code };
+
+    fn try_from(code: u8) -> Result<Self, UnknownCode> {
+        match code {
+            0x20 => Ok(MemoryInterfaceType::_128Mb),
+            0x02 => Ok(MemoryInterfaceType::_256Mb),
+            _ => Err(UnknownCode(code)),
+        }
+    }
 }
 
 #[derive(Clone, Copy)]
 pub enum Density {
-    _128Mb,
-    _256Mb,
+    _128Mb = 0x18,
+    _256Mb = 0x19,
 }
 
-// The density of a code, or the byte that is none (refusal 11).
-#[derive(Clone, Copy)]
-pub enum DensityCode {
-    Known(Density),
-    UnknownCode(u8),
+impl TryFrom<u8> for Density {
+    type Error = UnknownCode;
+
+    ghost try_from_gives = { λ code r. density_answer r ≡ code_answer density_codes code };
+
+    fn try_from(code: u8) -> Result<Self, UnknownCode> {
+        match code {
+            0x18 => Ok(Density::_128Mb),
+            0x19 => Ok(Density::_256Mb),
+            _ => Err(UnknownCode(code)),
+        }
+    }
 }
 
 #[derive(Clone, Copy)]
 pub enum SectorArchictecture {
     // Uniform 256 kB sectors.
-    Uniform,
+    Uniform = 0x00,
     // 32 4kB sectors and 64 kB sectors.
-    Hybrid,
+    Hybrid = 0x01,
 }
 
-// The architecture of a code, or the byte that is none (refusal 11).
-#[derive(Clone, Copy)]
-pub enum SectorArchictectureCode {
-    Known(SectorArchictecture),
-    UnknownCode(u8),
+impl TryFrom<u8> for SectorArchictecture {
+    type Error = UnknownCode;
+
+    ghost try_from_gives = { λ code r. sector_answer r ≡ code_answer sector_codes code };
+
+    fn try_from(code: u8) -> Result<Self, UnknownCode> {
+        match code {
+            0x00 => Ok(SectorArchictecture::Uniform),
+            0x01 => Ok(SectorArchictecture::Hybrid),
+            _ => Err(UnknownCode(code)),
+        }
+    }
 }
 
 #[derive(Clone, Copy)]
@@ -67,7 +92,7 @@ impl BaseDeviceId {
         ensures bytes { base_bytes result ≡ reply_bytes reply }
     {
         let raw = words::bytes_of(reply);
-        BaseDeviceId::new(raw[1], raw[2] as u16 * 256 + raw[3] as u16)
+        BaseDeviceId::new(raw[1], u16::from_be_bytes([raw[2], raw[3]]))
     }
 
     pub fn manufacturer_id(self) -> u8
@@ -82,26 +107,16 @@ impl BaseDeviceId {
         self.device_id
     }
 
-    pub fn memory_interface_type(self) -> MemoryInterfaceTypeCode
+    pub fn memory_interface_type(self) -> Result<MemoryInterfaceType, UnknownCode>
         ensures answer { interface_answer result ≡ code_answer interface_codes (self.device_id / 256) }
     {
-        let code = (self.device_id / 256) as u8;
-        match code {
-            0x20 => MemoryInterfaceTypeCode::Known(MemoryInterfaceType::_128Mb),
-            0x02 => MemoryInterfaceTypeCode::Known(MemoryInterfaceType::_256Mb),
-            _ => MemoryInterfaceTypeCode::UnknownCode(code),
-        }
+        MemoryInterfaceType::try_from((self.device_id / 256) as u8)
     }
 
-    pub fn density(self) -> DensityCode
+    pub fn density(self) -> Result<Density, UnknownCode>
         ensures answer { density_answer result ≡ code_answer density_codes (self.device_id % 256) }
     {
-        let code = (self.device_id % 256) as u8;
-        match code {
-            0x18 => DensityCode::Known(Density::_128Mb),
-            0x19 => DensityCode::Known(Density::_256Mb),
-            _ => DensityCode::UnknownCode(code),
-        }
+        Density::try_from((self.device_id % 256) as u8)
     }
 }
 
@@ -149,15 +164,10 @@ impl ExtendedDeviceId {
         self.sector_arch
     }
 
-    pub fn sector_arch(self) -> SectorArchictectureCode
+    pub fn sector_arch(self) -> Result<SectorArchictecture, UnknownCode>
         ensures answer { sector_answer result ≡ code_answer sector_codes self.sector_arch }
     {
-        let code = self.sector_arch;
-        match code {
-            0x00 => SectorArchictectureCode::Known(SectorArchictecture::Uniform),
-            0x01 => SectorArchictectureCode::Known(SectorArchictecture::Hybrid),
-            _ => SectorArchictectureCode::UnknownCode(code),
-        }
+        SectorArchictecture::try_from(self.sector_arch)
     }
 
     pub fn family_id(self) -> u8

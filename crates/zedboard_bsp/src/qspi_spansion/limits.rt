@@ -13,10 +13,7 @@ use zynq7000_hal::qspi::MAX_BYTES_PER_TRANSFER_IO_MODE;
 pub fn out_of_range(addr: u32, length: usize) -> bool
     ensures range { result ≡ ltb last_end (addr + length) }
 {
-    if LAST_END < length {
-        return true;
-    }
-    (LAST_END as u64) < addr as u64 + length as u64
+    LAST_END < length || (LAST_END as u64) < addr as u64 + length as u64
 }
 
 // What rule 2 asks for.
@@ -65,21 +62,14 @@ pub fn crosses_page(addr: u32, length: usize) -> bool
 pub fn spans_too_far(addr: u32, length: usize) -> bool
     ensures span { result ≡ ltb address_span (addr + length) }
 {
-    if ADDRESS_SPAN < length as u64 {
-        return true;
-    }
-    ADDRESS_SPAN < addr as u64 + length as u64
+    ADDRESS_SPAN < length as u64 || ADDRESS_SPAN < addr as u64 + length as u64
 }
 
 // The next chunk of `write_pages` where so many bytes are left.
 pub fn page_chunk(left: usize) -> u8
     ensures chunk { result ≡ min left recommended_program_page_size }
 {
-    if left < RECOMMENDED_PROGRAM_PAGE_SIZE {
-        left as u8
-    } else {
-        RECOMMENDED_PROGRAM_PAGE_SIZE as u8
-    }
+    left.min(RECOMMENDED_PROGRAM_PAGE_SIZE) as u8
 }
 
 // The largest chunk of a read: the FIFO holds the command word, a dummy byte and the data.
@@ -97,10 +87,5 @@ fn max_chunk_size(dummy: bool) -> usize
 pub fn read_chunk(left: usize, dummy: bool) -> u8
     ensures chunk { result ≡ min left (largest_chunk dummy) }
 {
-    let largest = max_chunk_size(dummy);
-    if left < largest {
-        left as u8
-    } else {
-        largest as u8
-    }
+    left.min(max_chunk_size(dummy)) as u8
 }

@@ -1,6 +1,6 @@
 // What is written back to status register 1 and configuration register 1: a changed field, and every
 // other bit as read.
-ghost use Rattle.std.specs.Prelude.{◌≡◌};
+ghost use Rattle.std.specs.Prelude.{◌≡◌, is_some, unwrap_or};
 ghost use Rattle.zedboard_bsp.specs.Registers as spec;
 
 // The status register with bit 7 clear and the protection as asked.
@@ -18,14 +18,13 @@ fn quad_set(quad: bool, cr: u8) -> u8
 }
 
 // The configuration register with the quad bit and the latency code as asked.
-pub fn configured_cr(quad: bool, set_latency: bool, latency: u8, cr: u8) -> u8
-    ensures byte { result ≡ spec.configured_cr quad set_latency latency cr }
+pub fn configured_cr(quad: bool, latency: Option<u8>, cr: u8) -> u8
+    ensures byte { result ≡ spec.configured_cr quad (is_some latency) (unwrap_or latency 0) cr }
 {
     let with_quad = quad_set(quad, cr);
-    if set_latency {
-        latency % 4 * 64 + with_quad % 64
-    } else {
-        with_quad
+    match latency {
+        Some(latency) => latency % 4 * 64 + with_quad % 64,
+        None => with_quad,
     }
 }
 
@@ -41,21 +40,10 @@ pub fn configured_sr(clear: bool, sr: u8) -> u8
 }
 
 // Whether something that is asked for is not so yet.
-pub fn update_needed(
-    quad: bool,
-    set_latency: bool,
-    latency: u8,
-    clear: bool,
-    cr: u8,
-    sr: u8,
-) -> bool
-    ensures needed { result ≡ spec.update_needed quad set_latency latency clear cr sr }
+pub fn update_needed(quad: bool, latency: Option<u8>, clear: bool, cr: u8, sr: u8) -> bool
+    ensures needed { result ≡ spec.update_needed quad (is_some latency) (unwrap_or latency 0) clear cr sr }
 {
-    if quad && cr / 2 % 2 == 0 {
-        return true;
-    }
-    if set_latency && cr / 64 % 4 != latency % 4 {
-        return true;
-    }
-    clear && sr / 4 % 8 != 0
+    (quad && cr / 2 % 2 == 0)
+        || latency.is_some_and(|latency| cr / 64 % 4 != latency % 4)
+        || (clear && sr / 4 % 8 != 0)
 }

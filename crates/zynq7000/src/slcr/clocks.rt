@@ -8,13 +8,13 @@ ghost use Rattle.zynq7000.specs.Slcr.{source_code, clock_control_table};
 #[derive(Clone, Copy)]
 pub enum SrcSelIo {
     // IO PLL output.
-    IoPll,
+    IoPll = 0,
     // IO PLL output, alternate encoding.
-    IoPllAlt,
+    IoPllAlt = 1,
     // ARM PLL output.
-    ArmPll,
+    ArmPll = 2,
     // DDR PLL output.
-    DdrPll,
+    DdrPll = 3,
 }
 
 impl SrcSelIo {
@@ -22,12 +22,7 @@ impl SrcSelIo {
     pub fn raw_value(self) -> u32
         ensures code { (result ≡ source_code self) × (result < 4) }
     {
-        match self {
-            SrcSelIo::IoPll => 0,
-            SrcSelIo::IoPllAlt => 1,
-            SrcSelIo::ArmPll => 2,
-            SrcSelIo::DdrPll => 3,
-        }
+        self as u32
     }
 }
 

@@ -6,7 +6,7 @@ ghost use Rattle.zynq7000_hal.specs.Presets.{mode_bits, linear_read};
 use zynq7000::bits;
 use zynq7000::qspi::{InstructionCode, LinearQspiConfig};
 
-// A read in linear mode. Where the address goes over several lines, mode bits follow it.
+// A read in linear mode.
 pub fn linear_read(
     instruction_code: InstructionCode,
     sends_mode: bool,

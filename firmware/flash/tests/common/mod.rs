@@ -3,9 +3,7 @@
 
 use core::ops::ControlFlow;
 use model::Model;
-use qspi_flash::{
-    AS_IT_IS, Budget, Bus, Call, Config, EraseSectorsError, Error, Flash, Latency, QspiLowLevel, WritePagesError,
-};
+use qspi_flash::{AS_IT_IS, Budget, Bus, Call, Config, EraseSectorsError, Error, Flash, QspiLowLevel, WritePagesError};
 use verified::qspi_calls::{sectors, start};
 use verified::qspi_operation::Op;
 use verified::zedboard_bsp::qspi_spansion::{ConfigRegister1, StatusRegister1};
@@ -84,7 +82,7 @@ pub const CLOCK: ClockConfig =
     ClockConfig { src_sel: SrcSelIo::IoPll, ref_clk_div: 5, baud_rate_config: BaudRateConfig::WithLoopback };
 
 const ALL_ASKED: Config =
-    Config { set_quad_bit_if_necessary: true, latency_config: Latency::Code(3), clear_write_protection: true };
+    Config { set_quad_bit_if_necessary: true, latency_config: Some(3), clear_write_protection: true };
 
 pub type Board<'l> = Flash<'l, Recorder<Model>>;
 type Ended<'l> = (QspiLowLevel<'l, Recorder<Model>>, Result<(), Error>);

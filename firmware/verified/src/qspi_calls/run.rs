@@ -18,38 +18,22 @@ pub struct Ran {
 
 // What a run hands back.
 pub fn finish(s: Stepped) -> Ran {
-    let op = s.op;
-    let answer = s.answer;
     Ran {
-        answer,
-        used: op.used,
-        replies: op.replies,
+        answer: s.answer,
+        used: s.op.used,
+        replies: s.op.replies,
     }
 }
 
 // Whether an answer has values: that of a call that is done, or refused for an entry of a list.
 fn has_values(status: Status) -> bool {
-    match status {
-        Status::Going => false,
-        Status::Done => true,
-        Status::OutOfRange => true,
-        Status::Alignment => true,
-        Status::DataTooLarge => false,
-        Status::NotAligned => false,
-        Status::CrossesPageBoundary => false,
-        Status::AddressSpan => false,
-        Status::FieldTooWide => false,
-        Status::EraseErrorBitSet => false,
-        Status::ProgrammingErrorBitSet => false,
-        Status::RepliesEnded => false,
-        Status::LogFull => false,
-        Status::LentLengthChanged => false,
-        Status::RepeatedSector => true,
-        Status::ListTooLong => false,
-    }
+    matches!(
+        status,
+        Status::Done | Status::OutOfRange | Status::Alignment | Status::RepeatedSector
+    )
 }
 
-// A reply, where the answer has values: what its value is made of.
+// A reply, where the answer has values: what its value is made of. 0 where it has none, since C is handed a word.
 pub fn kept(answer: Status, reply: u32) -> u32 {
     if has_values(answer) { reply } else { 0 }
 }
@@ -64,21 +48,13 @@ pub fn given(answer: Status, gives: Gives) -> Gives {
 }
 
 // The one value of an answer: a register's byte, the SLCR clock word, or the place of an entry of a list. 0
-// where it has none, and where it has more, as an id.
+// where it has none, and where it has more, as an id: C is handed a word, and clause `value` says this one.
 pub fn value(s: Stepped) -> u32 {
-    let op = s.op;
-    let job = op.job;
-    let script = job.script;
-    let gives = script.gives;
-    let low_level = job.low_level;
-    let wire = op.wire;
-    let answer = s.answer;
-    match given(answer, gives) {
-        Gives::Nothing => 0,
-        Gives::Register => words::top_byte(wire.last) as u32,
-        Gives::Id => 0,
-        Gives::LongId => 0,
-        Gives::Clock => low_level.clock,
+    let job = s.op.job;
+    match given(s.answer, job.script.gives) {
+        Gives::Nothing | Gives::Id | Gives::LongId => 0,
+        Gives::Register => words::top_byte(s.op.wire.last) as u32,
+        Gives::Clock => job.low_level.clock,
         Gives::Place(at) => at as u32,
     }
 }

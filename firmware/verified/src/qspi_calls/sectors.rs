@@ -11,65 +11,45 @@ use crate::zedboard_bsp::qspi_spansion::limits;
 // What a sector is refused for: rule 1, then rule 2. One that meets neither goes on.
 pub fn sector_status(addr: u32) -> Status {
     if limits::out_of_range(addr, SECTOR_SIZE) {
-        return Status::OutOfRange;
-    }
-    if limits::starts_sector(addr) {
+        Status::OutOfRange
+    } else if limits::starts_sector(addr) {
         Status::Going
     } else {
         Status::Alignment
     }
 }
 
-// The first place that meets rule 1 or 2; the length where none does.
-pub fn first_refused(list: &[u32]) -> usize {
-    let mut at: usize = 0;
-    while at < list.len() {
-        if qspi_operation::is_going(sector_status(list[at])) {
-            at += 1;
-        } else {
-            return at;
+// The first place that meets rule 1 or 2.
+pub fn first_refused(list: &[u32]) -> Option<usize> {
+    for (at, &addr) in list.iter().enumerate() {
+        if !qspi_operation::is_going(sector_status(addr)) {
+            return Some(at);
         }
     }
-    at
+    None
 }
 
-// Whether a sector is among the first so many of a list.
-// requires { count ≤ length list.now }
-fn is_among(list: &[u32], count: usize, addr: u32) -> bool {
-    let mut at: usize = 0;
-    while at < count {
-        if list[at] == addr {
-            return true;
-        }
-        at += 1;
-    }
-    false
+fn is_among(earlier: &[u32], addr: u32) -> bool {
+    earlier.contains(&addr)
 }
 
-// The first place that repeats an earlier one; the length where none does.
-pub fn first_repeat(list: &[u32]) -> usize {
-    let mut at: usize = 0;
-    while at < list.len() {
-        if is_among(list, at, list[at]) {
-            return at;
+// The first place that repeats an earlier one.
+pub fn first_repeat(list: &[u32]) -> Option<usize> {
+    for (at, &addr) in list.iter().enumerate() {
+        if is_among(&list[..at], addr) {
+            return Some(at);
         }
-        at += 1;
     }
-    at
+    None
 }
 
 // The list as an operation is lent it, a byte a sector: its number. A call that is not refused names no
 // sector behind these.
 pub fn numbered(list: &[u32]) -> [u8; 256] {
     let mut numbers = [0u8; 256];
-    let mut at: usize = 0;
-    while at < LONGEST_LIST {
-        if at < list.len() {
-            numbers[at] = limits::sector_number(list[at]);
-            at += 1;
-        } else {
-            return numbers;
-        }
+    let count = list.len().min(LONGEST_LIST);
+    for (at, &addr) in list[..count].iter().enumerate() {
+        numbers[at] = limits::sector_number(addr);
     }
     numbers
 }

@@ -1,7 +1,8 @@
 // Made by tools/erase from crates/qspi_calls/src/start.rt; a change belongs there.
 //! How the calls start: the input is tested, and the operation is refused, ended, or going on. Names are
 //! the Rust's, of `QspiLowLevel` and `QspiSpansionS25Fl256SIoMode`. `log`, `data` and `buffer` are the
-//! lengths of the memory that the steps will be lent.
+//! lengths of the memory that the steps will be lent. They and what is asked for are plain numbers, as calls from
+//! C bring them.
 
 use crate::qspi_calls::sectors;
 use crate::qspi_operation;
@@ -20,38 +21,27 @@ use crate::qspi_script::Stage;
 use crate::qspi_script::Status;
 use crate::qspi_script::Turned;
 use crate::qspi_script::Wanted;
-use crate::qspi_transfer;
 use crate::qspi_transfer::Phase;
+use crate::qspi_transfer::Wire;
 use crate::qspi_transfer::low_level::Sequence;
 use crate::zedboard_bsp::qspi_spansion::limits;
 use crate::zynq7000_hal;
 use crate::zynq7000_hal::qspi::BaudRateConfig;
 use crate::zynq7000_hal::qspi::ClockConfig;
-use crate::zynq7000_hal::qspi::Initialization;
+use crate::zynq7000_hal::qspi::FieldTooWide;
 
-// What the status and configuration registers are to be set to by `new`.
-#[derive(Clone, Copy, Debug, PartialEq, Eq)]
-pub enum Latency {
-    AsRead,
-    Code(u8),
-}
-
+// What the status and configuration registers are to be set to by `new`: the latency code stays as it is read
+// where none is given.
 #[derive(Clone, Copy, Debug, PartialEq, Eq)]
 pub struct Config {
     pub set_quad_bit_if_necessary: bool,
-    pub latency_config: Latency,
+    pub latency_config: Option<u8>,
     pub clear_write_protection: bool,
 }
 
-const NOT_READING: Reading = Reading {
-    fast: false,
-    dummy: false,
-};
-
 const NOTHING_WANTED: Wanted = Wanted {
     quad: false,
-    set_latency: false,
-    latency: 0,
+    latency: None,
     clear: false,
     protection: 0,
 };
@@ -62,75 +52,81 @@ const NO_REGISTERS: LowLevel = LowLevel {
     clock: 0,
 };
 
+// One transfer that gives nothing: what each script differs from.
+const ONE_TRANSFER: Script = Script {
+    after_enable: Stage::End,
+    after_clear: Stage::End,
+    after_disable: Status::Done,
+    erasing: false,
+    sequel: Sequel::Once,
+    purpose: Purpose::Answer,
+    gives: Gives::Nothing,
+};
+
 // A script of one transfer, or of register accesses, and what the call gives.
 fn plain(gives: Gives) -> Script {
     Script {
-        after_enable: Stage::End,
-        after_clear: Stage::End,
-        after_disable: Status::Done,
-        erasing: false,
-        sequel: Sequel::Once,
-        purpose: Purpose::Answer,
         gives,
+        ..ONE_TRANSFER
     }
 }
 
 // A call that is lent only a log.
 fn command(script: Script, log: usize) -> Job {
-    let lent = Lent {
-        data: 0,
-        buffer: 0,
-        log,
-    };
     Job {
-        lent,
+        lent: Lent {
+            data: 0,
+            buffer: 0,
+            log,
+        },
         script,
         addr: 0,
-        reading: NOT_READING,
+        reading: Reading {
+            fast: false,
+            dummy: false,
+        },
         wanted: NOTHING_WANTED,
         low_level: NO_REGISTERS,
     }
 }
 
-fn place(stage: Stage, chunk: u8, sr: u8, cr: u8) -> Place {
+// At the beginning of a stage, with nothing at hand.
+fn at(stage: Stage) -> Place {
     Place {
         stage,
         done: 0,
-        chunk,
-        sr,
-        cr,
+        chunk: 0,
+        sr: 0,
+        cr: 0,
+    }
+}
+
+// Where a turn leads: its first access is due, or none is.
+fn opened(job: Job, turned: Turned) -> Op {
+    Op {
+        job,
+        place: turned.place,
+        wire: Wire::begin(Phase::DrainStatus),
+        used: 0,
+        replies: 0,
+        status: turned.status,
     }
 }
 
 // The first access of a transfer is due.
 fn going(job: Job, place: Place) -> Op {
-    let wire = qspi_transfer::begin(Phase::DrainStatus);
-    Op {
-        job,
-        place,
-        wire,
-        used: 0,
-        replies: 0,
-        status: Status::Going,
-    }
+    let status = Status::Going;
+    opened(job, Turned { place, status })
 }
 
 // No access is due.
 fn over(job: Job, status: Status) -> Op {
-    let wire = qspi_transfer::begin(Phase::DrainStatus);
-    let end = place(Stage::End, 0, 0, 0);
-    Op {
-        job,
-        place: end,
-        wire,
-        used: 0,
-        replies: 0,
-        status,
-    }
+    let place = at(Stage::End);
+    opened(job, Turned { place, status })
 }
 
 fn one_transfer(stage: Stage, gives: Gives, log: usize) -> Op {
-    going(command(plain(gives), log), place(stage, 0, 0, 0))
+    going(command(plain(gives), log), at(stage))
 }
 
 pub fn write_enable(log: usize) -> Op {
@@ -164,143 +160,94 @@ pub fn read_rdid_extended(log: usize) -> Op {
 fn enabled(stage: Stage) -> Script {
     Script {
         after_enable: stage,
-        after_clear: Stage::End,
-        after_disable: Status::Done,
-        erasing: false,
-        sequel: Sequel::Once,
-        purpose: Purpose::Answer,
-        gives: Gives::Nothing,
+        ..ONE_TRANSFER
     }
 }
 
 pub fn write_status(sr: u8, log: usize) -> Op {
-    going(
-        command(enabled(Stage::WriteStatus), log),
-        place(Stage::Enable, 0, sr, 0),
-    )
+    let enable = Place {
+        sr,
+        ..at(Stage::Enable)
+    };
+    going(command(enabled(Stage::WriteStatus), log), enable)
 }
 
 pub fn write_status_and_config_register(sr: u8, cr: u8, log: usize) -> Op {
-    going(
-        command(enabled(Stage::WriteRegisters), log),
-        place(Stage::Enable, 0, sr, cr),
-    )
+    let enable = Place {
+        sr,
+        cr,
+        ..at(Stage::Enable)
+    };
+    going(command(enabled(Stage::WriteRegisters), log), enable)
 }
 
 // What is to be written to both registers once they are read.
 fn updating(after_clear: Stage, purpose: Purpose, wanted: Wanted, log: usize) -> Job {
-    let lent = Lent {
-        data: 0,
-        buffer: 0,
-        log,
-    };
     let script = Script {
-        after_enable: Stage::WriteRegisters,
         after_clear,
-        after_disable: Status::Done,
-        erasing: false,
-        sequel: Sequel::Once,
         purpose,
-        gives: Gives::Nothing,
+        ..enabled(Stage::WriteRegisters)
     };
     Job {
-        lent,
-        script,
-        addr: 0,
-        reading: NOT_READING,
         wanted,
-        low_level: NO_REGISTERS,
+        ..command(script, log)
     }
 }
 
 // Whether `new` reads the registers at all.
-fn may_update(quad: bool, set_latency: bool, clear: bool) -> Stage {
-    if quad {
-        return Stage::ReadConfig;
-    }
-    if set_latency {
-        return Stage::ReadConfig;
-    }
-    if clear {
-        return Stage::ReadConfig;
-    }
-    Stage::End
-}
-
-fn configuring(quad: bool, set_latency: bool, latency: u8, clear: bool, log: usize) -> Op {
-    let wanted = Wanted {
-        quad,
-        set_latency,
-        latency,
-        clear,
-        protection: 0,
-    };
-    let job = updating(
-        may_update(quad, set_latency, clear),
-        Purpose::Configure,
-        wanted,
-        log,
-    );
-    if 3 < latency {
-        over(job, Status::FieldTooWide)
+fn may_update(wanted: Wanted) -> Stage {
+    if wanted.quad || wanted.latency.is_some() || wanted.clear {
+        Stage::ReadConfig
     } else {
-        going(job, place(Stage::Clear, 0, 0, 0))
+        Stage::End
     }
 }
 
 pub fn new(config: Config, log: usize) -> Op {
-    let quad = config.set_quad_bit_if_necessary;
-    let clear = config.clear_write_protection;
     let latency = config.latency_config;
-    match latency {
-        Latency::AsRead => configuring(quad, false, 0, clear, log),
-        Latency::Code(code) => configuring(quad, true, code, clear, log),
+    let wanted = Wanted {
+        quad: config.set_quad_bit_if_necessary,
+        latency,
+        clear: config.clear_write_protection,
+        ..NOTHING_WANTED
+    };
+    let job = updating(may_update(wanted), Purpose::Configure, wanted, log);
+    if 3 < latency.unwrap_or(0) {
+        over(job, Status::FieldTooWide)
+    } else {
+        going(job, at(Stage::Clear))
     }
 }
 
 pub fn set_write_protection(protection: u8, log: usize) -> Op {
     let wanted = Wanted {
-        quad: false,
-        set_latency: false,
-        latency: 0,
-        clear: false,
         protection,
+        ..NOTHING_WANTED
     };
     let job = updating(Stage::End, Purpose::Protect, wanted, log);
     if 7 < protection {
         over(job, Status::FieldTooWide)
     } else {
-        going(job, place(Stage::ReadStatus, 0, 0, 0))
+        going(job, at(Stage::ReadStatus))
     }
 }
 
 // A script of write enable, the work, and its status until it is settled.
 fn works(stage: Stage, erasing: bool, sequel: Sequel, failure: Status, gives: Gives) -> Script {
     Script {
-        after_enable: stage,
         after_clear: Stage::Disable,
         after_disable: failure,
         erasing,
         sequel,
-        purpose: Purpose::Answer,
         gives,
+        ..enabled(stage)
     }
 }
 
 fn working(script: Script, addr: u32, data: usize, log: usize) -> Job {
-    let lent = Lent {
-        data,
-        buffer: 0,
-        log,
-    };
-    Job {
-        lent,
-        script,
-        addr,
-        reading: NOT_READING,
-        wanted: NOTHING_WANTED,
-        low_level: NO_REGISTERS,
-    }
+    let job = command(script, log);
+    let lent = Lent { data, ..job.lent };
+    Job { lent, addr, ..job }
 }
 
 // Sector erases: one of them, or those of a list.
@@ -312,7 +259,7 @@ pub fn erase_sector(addr: u32, log: usize) -> Op {
     let job = working(erasing(Sequel::Once, Gives::Nothing), addr, 0, log);
     let status = sectors::sector_status(addr);
     if qspi_operation::is_going(status) {
-        going(job, place(Stage::Enable, 0, 0, 0))
+        going(job, at(Stage::Enable))
     } else {
         over(job, status)
     }
@@ -331,23 +278,18 @@ pub fn erase_sectors(list: &[u32], log: usize) -> Op {
     if limits::list_too_long(count) {
         return over(listing(Gives::Nothing, count, log), Status::ListTooLong);
     }
-    let bad = sectors::first_refused(list);
-    if bad < count {
+    if let Some(bad) = sectors::first_refused(list) {
         let status = sectors::sector_status(list[bad]);
         return over(listing(Gives::Place(bad as u8), count, log), status);
     }
-    let again = sectors::first_repeat(list);
-    if again < count {
+    if let Some(again) = sectors::first_repeat(list) {
         return over(
             listing(Gives::Place(again as u8), count, log),
             Status::RepeatedSector,
         );
     }
     let job = listing(Gives::Nothing, count, log);
-    opened(
-        job,
-        qspi_script::next_sector(job, place(Stage::Enable, 0, 0, 0)),
-    )
+    opened(job, job.next_sector(at(Stage::Enable)))
 }
 
 // Page programs: one of them, or the chunks of `write_pages`.
@@ -376,22 +318,11 @@ pub fn program(addr: u32, data: usize, log: usize) -> Op {
     if limits::crosses_page(addr, data) {
         return over(job, Status::CrossesPageBoundary);
     }
-    going(job, place(Stage::Enable, data as u8, 0, 0))
-}
-
-// Where a turn leads: its first access is due, or none is.
-fn opened(job: Job, turned: Turned) -> Op {
-    let wire = qspi_transfer::begin(Phase::DrainStatus);
-    let place = turned.place;
-    let status = turned.status;
-    Op {
-        job,
-        place,
-        wire,
-        used: 0,
-        replies: 0,
-        status,
-    }
+    let enable = Place {
+        chunk: data as u8,
+        ..at(Stage::Enable)
+    };
+    going(job, enable)
 }
 
 // 1 on the whole length, before any chunk; then each chunk when its turn comes.
@@ -400,34 +331,30 @@ pub fn write_pages(addr: u32, data: usize, log: usize) -> Op {
     if limits::out_of_range(addr, data) {
         return over(job, Status::OutOfRange);
     }
-    let first = qspi_script::next_page(job, place(Stage::Enable, 0, 0, 0));
-    opened(job, first)
+    opened(job, job.next_page(at(Stage::Enable)))
 }
 
 fn read(addr: u32, fast: bool, dummy: bool, buffer: usize, log: usize) -> Op {
-    let lent = Lent {
-        data: 0,
-        buffer,
-        log,
-    };
+    let job = command(ONE_TRANSFER, log);
+    let lent = Lent { buffer, ..job.lent };
     let reading = Reading { fast, dummy };
-    let script = plain(Gives::Nothing);
     let job = Job {
         lent,
-        script,
         addr,
         reading,
-        wanted: NOTHING_WANTED,
-        low_level: NO_REGISTERS,
+        ..job
     };
-    let chunk = qspi_script::next_chunk(buffer, 0, dummy);
     if limits::spans_too_far(addr, buffer) {
         return over(job, Status::AddressSpan);
     }
     if buffer == 0 {
         return over(job, Status::Done);
     }
-    going(job, place(Stage::Read, chunk, 0, 0))
+    let first = Place {
+        chunk: qspi_script::next_chunk(buffer, 0, dummy),
+        ..at(Stage::Read)
+    };
+    going(job, first)
 }
 
 pub fn read_page_read(addr: u32, buffer: usize, log: usize) -> Op {
@@ -440,38 +367,22 @@ pub fn read_fast_read(addr: u32, dummy_byte: bool, buffer: usize, log: usize) ->
 
 // A call that sends nothing.
 fn registers_job(sequence: Sequence, word: u32, gives: Gives, clock: u32, log: usize) -> Job {
-    let lent = Lent {
-        data: 0,
-        buffer: 0,
-        log,
-    };
     let low_level = LowLevel {
         sequence,
         word,
         clock,
     };
-    let script = plain(gives);
     Job {
-        lent,
-        script,
-        addr: 0,
-        reading: NOT_READING,
-        wanted: NOTHING_WANTED,
         low_level,
+        ..command(plain(gives), log)
     }
 }
 
 fn registers(sequence: Sequence, word: u32, gives: Gives, clock: u32, log: usize) -> Op {
     let job = registers_job(sequence, word, gives, clock, log);
-    let wire = qspi_transfer::begin(Phase::Registers);
-    let at = place(Stage::Registers, 0, 0, 0);
     Op {
-        job,
-        place: at,
-        wire,
-        used: 0,
-        replies: 0,
-        status: Status::Going,
+        wire: Wire::begin(Phase::Registers),
+        ..going(job, at(Stage::Registers))
     }
 }
 
@@ -484,14 +395,13 @@ fn sequence_of(config: BaudRateConfig) -> Sequence {
 }
 
 pub fn initialize(clock_config: ClockConfig, phase: bool, polarity: bool, log: usize) -> Op {
-    let baud_rate_config = clock_config.baud_rate_config;
-    let sequence = sequence_of(baud_rate_config);
+    let sequence = sequence_of(clock_config.baud_rate_config);
     match zynq7000_hal::qspi::initialize_words(clock_config, phase, polarity) {
-        Initialization::Words(words) => {
+        Ok(words) => {
             let clock = words.lqspi_clk_ctrl;
             registers(sequence, words.config, Gives::Clock, clock, log)
         }
-        Initialization::FieldTooWide => over(
+        Err(FieldTooWide) => over(
             registers_job(Sequence::Initialize, 0, Gives::Nothing, 0, log),
             Status::FieldTooWide,
         ),

@@ -6,13 +6,12 @@ use crate::qspi_calls::run;
 use crate::qspi_calls::sectors;
 use crate::qspi_calls::start;
 use crate::qspi_operation;
-use crate::qspi_operation::Asked;
+use crate::qspi_operation::LentLengthChanged;
 use crate::qspi_operation::Op;
-use crate::qspi_operation::Reply;
 use crate::qspi_operation::Stepped;
 use crate::qspi_script::Gives;
-use crate::qspi_script::Number;
 use crate::qspi_script::Status;
+use crate::qspi_transfer::Due;
 use crate::zedboard_bsp::qspi_spansion::device_id::BaseDeviceId;
 use crate::zedboard_bsp::qspi_spansion::device_id::ExtendedDeviceId;
 use crate::zedboard_bsp::qspi_spansion::words;
@@ -23,39 +22,36 @@ pub struct State {
     pub op: Op,
 }
 
-// The list of sectors as it was lent at the start of `erase_sectors`, a byte a sector: its number.
+// The list of sectors as it was lent at the start of `erase_sectors`, a byte a sector: its number. There is no
+// heap on the board, so there is room for the longest; how many they are says the operation.
 #[derive(Clone, Copy, Debug, PartialEq, Eq)]
 pub struct SectorList {
     pub numbers: [u8; 256],
 }
 
-// What a start or a step answers.
+// Why a start begins nothing: nothing is changed then.
 #[derive(Clone, Copy, Debug, PartialEq, Eq)]
-pub enum Answer {
-    // The status of the operation at hand.
-    Given(Status),
-    // A start while the operation at hand has not ended: nothing is changed.
+pub enum StartRefused {
+    // The operation at hand has not ended.
     Busy,
-    // A start of a list of sectors without its list: nothing is changed; `erase_sectors` begins one.
+    // A list of sectors is begun without its list; `erase_sectors` begins one.
     ListMissing,
 }
 
-impl Answer {
-    // Document 01's number, where the answer has one.
-    pub fn number(self) -> Number {
-        match self {
-            Answer::Given(status) => status.number(),
-            Answer::Busy => Number::Without,
-            Answer::ListMissing => Number::Without,
-        }
+// Document 01's number, where the answer has one.
+pub fn number(answer: Result<Status, StartRefused>) -> Option<u32> {
+    match answer {
+        Ok(status) => status.number(),
+        Err(_) => None,
     }
 }
 
-// The state after a start or a step, and its answer.
+// The state after a start or a step, and its answer: the status of the operation at hand. Both answer in one
+// type, so that a caller begins a call and goes on with it by one answer; a step is not refused.
 #[derive(Clone, Copy, Debug, PartialEq, Eq)]
 pub struct Acted {
     pub state: State,
-    pub answer: Answer,
+    pub answer: Result<Status, StartRefused>,
 }
 
 // The same after a start of a list, with the list that is kept.
@@ -63,12 +59,13 @@ pub struct Acted {
 pub struct ListActed {
     pub state: State,
     pub list: SectorList,
-    pub answer: Answer,
+    pub answer: Result<Status, StartRefused>,
 }
 
 // The answer so far: status, used counts (log words, replies), what it counts (bytes programmed by
 // `write_pages`, sectors finished of a list), and of an answer with values what it gives: the SLCR clock
-// word, the place of an entry, and the last three replies, of which a register's byte or an id is made.
+// word, the place of an entry, and the last three replies, of which a register's byte or an id is made. These
+// are no enum of values: `register`, the ids and `lqspi_clk_ctrl` promise what they give of any answer.
 #[derive(Clone, Copy, Debug, PartialEq, Eq)]
 pub struct Progress {
     pub status: Status,
@@ -105,48 +102,37 @@ impl Progress {
 
     // The place, from 0, of the entry that a list of sectors was refused for; 0 for any other answer.
     pub fn place(self) -> u8 {
-        let gives = self.gives;
-        match gives {
-            Gives::Nothing => 0,
-            Gives::Register => 0,
-            Gives::Id => 0,
-            Gives::LongId => 0,
-            Gives::Clock => 0,
+        match self.gives {
             Gives::Place(at) => at,
+            _ => 0,
         }
     }
 }
 
 // Begins a call, unless one is under way or the call is of a list, which `begin_list` begins.
 pub fn begin(state: State, op: Op) -> Acted {
-    let at_hand = state.op;
-    let status = at_hand.status;
-    if qspi_operation::is_going(status) {
+    if qspi_operation::is_going(state.op.status) {
         return Acted {
             state,
-            answer: Answer::Busy,
+            answer: Err(StartRefused::Busy),
         };
     }
     if qspi_operation::erases_list(op) {
         return Acted {
             state,
-            answer: Answer::ListMissing,
+            answer: Err(StartRefused::ListMissing),
         };
     }
-    let status = op.status;
-    let next = State { op };
     Acted {
-        state: next,
-        answer: Answer::Given(status),
+        state: State { op },
+        answer: Ok(op.status),
     }
 }
 
 // Begins a list of sectors, unless a call is under way: its numbers are kept beside the operation.
 pub fn begin_list(state: State, kept: SectorList, list: &[u32], log: usize) -> ListActed {
-    let at_hand = state.op;
-    let status = at_hand.status;
-    if qspi_operation::is_going(status) {
-        let answer = Answer::Busy;
+    if qspi_operation::is_going(state.op.status) {
+        let answer = Err(StartRefused::Busy);
         return ListActed {
             state,
             list: kept,
@@ -154,39 +140,33 @@ pub fn begin_list(state: State, kept: SectorList, list: &[u32], log: usize) -> L
         };
     }
     let begun = start::erase_sectors(list, log);
-    let status = begun.status;
-    let next = State { op: begun };
     let numbers = sectors::numbered(list);
-    let copied = SectorList { numbers };
     ListActed {
-        state: next,
-        list: copied,
-        answer: Answer::Given(status),
+        state: State { op: begun },
+        list: SectorList { numbers },
+        answer: Ok(begun.status),
     }
 }
 
 // What the operation at hand is lent: a list of sectors its own copy, as far as it is long, and no other
 // data with it; any other operation the caller's data.
 fn lent_to<'a>(state: State, list: &'a [u8], data: &'a [u8]) -> &'a [u8] {
-    let at_hand = state.op;
-    if qspi_operation::erases_list(at_hand) {
-        if 0 < data.len() {
-            let none: usize = 0;
-            return &list[..none];
-        }
-        let job = at_hand.job;
-        let lent = job.lent;
-        let n = lent.data;
-        if n < list.len() {
-            return &list[..n];
-        }
-        return list;
+    if !qspi_operation::erases_list(state.op) {
+        return data;
     }
-    data
+    if 0 < data.len() {
+        return &list[..0];
+    }
+    let n = state.op.job.lent.data;
+    if n < list.len() { &list[..n] } else { list }
 }
 
 // The access that is due.
-pub fn due<'a>(state: State, list: &'a [u8], data: &'a [u8]) -> Asked {
+pub fn due<'a>(
+    state: State,
+    list: &'a [u8],
+    data: &'a [u8],
+) -> Result<Option<Due>, LentLengthChanged> {
     let lent = lent_to(state, list, data);
     qspi_operation::due(state.op, lent)
 }
@@ -195,17 +175,13 @@ pub fn answer_so_far(state: State) -> Progress {
     let op = state.op;
     let status = op.status;
     let wire = op.wire;
-    let job = op.job;
-    let script = job.script;
-    let gives = script.gives;
-    let low_level = job.low_level;
     Progress {
         status,
         used: op.used,
         replies: op.replies,
         counted: qspi_operation::counted(op),
-        gives: run::given(status, gives),
-        clock: run::kept(status, low_level.clock),
+        gives: run::given(status, op.job.script.gives),
+        clock: run::kept(status, op.job.low_level.clock),
         older: run::kept(status, wire.older),
         old: run::kept(status, wire.old),
         last: run::kept(status, wire.last),
@@ -214,12 +190,9 @@ pub fn answer_so_far(state: State) -> Progress {
 
 // The state that holds a stepped operation.
 fn holding(stepped: Stepped) -> Acted {
-    let op = stepped.op;
-    let status = stepped.answer;
-    let state = State { op };
     Acted {
-        state,
-        answer: Answer::Given(status),
+        state: State { op: stepped.op },
+        answer: Ok(stepped.answer),
     }
 }
 
@@ -230,28 +203,18 @@ pub fn step<'a>(
     data: &'a [u8],
     buffer: &mut [u8],
     log: &mut [u32],
-    reply: Reply,
+    reply: Option<u32>,
 ) -> Acted {
     let lent = lent_to(state, list, data);
     holding(qspi_operation::step(state.op, lent, buffer, log, reply))
 }
 
 // The next one of the replies that was not used, or none.
-pub fn next_reply(state: State, replies: &[u32]) -> Reply {
-    let op = state.op;
-    let at = op.replies;
-    if at < replies.len() {
-        Reply::Word(replies[at])
-    } else {
-        Reply::Nothing
-    }
+pub fn next_reply(state: State, replies: &[u32]) -> Option<u32> {
+    replies.get(state.op.replies).copied()
 }
 
 // Whether a call is under way: a step is due.
-pub fn is_under_way(answer: Answer) -> bool {
-    match answer {
-        Answer::Given(status) => qspi_operation::is_going(status),
-        Answer::Busy => false,
-        Answer::ListMissing => false,
-    }
+pub fn is_under_way(answer: Result<Status, StartRefused>) -> bool {
+    matches!(answer, Ok(Status::Going))
 }

@@ -31,13 +31,13 @@ impl Sequence {
 
 // The config word, then with loopback the loopback delay.
 fn initialize_due(at: u32, word: u32) -> Due {
-    if at == 0 {
-        return Due::Write(qspi::CONFIG, word);
+    match at {
+        0 => Due::Write(qspi::CONFIG, word),
+        _ => Due::Write(
+            qspi::LOOPBACK_MASTER_CLOCK_DELAY,
+            1 << LoopbackMasterClockDelay::USE_LOOPBACK,
+        ),
     }
-    Due::Write(
-        qspi::LOOPBACK_MASTER_CLOCK_DELAY,
-        1 << LoopbackMasterClockDelay::USE_LOOPBACK,
-    )
 }
 
 // Start and chip select are the controller's in this mode: the manual wants these bits 0, says the Rust.
@@ -60,52 +60,39 @@ fn io_config(config: u32) -> u32 {
 }
 
 fn enable_linear_addressing_due(at: u32, config: u32, word: u32) -> Due {
-    if at == 0 {
-        return Due::Write(qspi::SPI_ENABLE, 0);
+    match at {
+        0 => Due::Write(qspi::SPI_ENABLE, 0),
+        1 => Due::Read(qspi::CONFIG),
+        2 => Due::Write(qspi::CONFIG, linear_config(config)),
+        _ => Due::Write(qspi::LINEAR_QSPI_CONFIG, word),
     }
-    if at == 1 {
-        return Due::Read(qspi::CONFIG);
-    }
-    if at == 2 {
-        return Due::Write(qspi::CONFIG, linear_config(config));
-    }
-    Due::Write(qspi::LINEAR_QSPI_CONFIG, word)
 }
 
 fn enable_io_mode_due(at: u32, config: u32, word: u32) -> Due {
-    if at == 0 {
-        return Due::Read(qspi::CONFIG);
+    match at {
+        0 => Due::Read(qspi::CONFIG),
+        1 => Due::Write(qspi::CONFIG, io_config(config)),
+        2 => Due::Write(qspi::RX_FIFO_THRESHOLD, 1),
+        3 => Due::Write(qspi::TX_FIFO_THRESHOLD, 1),
+        _ => Due::Write(qspi::LINEAR_QSPI_CONFIG, word),
     }
-    if at == 1 {
-        return Due::Write(qspi::CONFIG, io_config(config));
-    }
-    if at == 2 {
-        return Due::Write(qspi::RX_FIFO_THRESHOLD, 1);
-    }
-    if at == 3 {
-        return Due::Write(qspi::TX_FIFO_THRESHOLD, 1);
-    }
-    Due::Write(qspi::LINEAR_QSPI_CONFIG, word)
 }
 
 fn disable_due(at: u32, config: u32) -> Due {
-    if at == 0 {
-        return Due::Write(qspi::SPI_ENABLE, 0);
+    match at {
+        0 => Due::Write(qspi::SPI_ENABLE, 0),
+        1 => Due::Read(qspi::CONFIG),
+        _ => Due::Write(
+            qspi::CONFIG,
+            bits::put(config, Config::PERIPHERAL_CHIP_SELECT),
+        ),
     }
-    if at == 1 {
-        return Due::Read(qspi::CONFIG);
-    }
-    Due::Write(
-        qspi::CONFIG,
-        bits::put(config, Config::PERIPHERAL_CHIP_SELECT),
-    )
 }
 
 // The access at a place of a call, by the config word last read and the call's own word.
 pub fn due(sequence: Sequence, at: u32, config: u32, word: u32) -> Due {
     match sequence {
-        Sequence::Initialize => initialize_due(at, word),
-        Sequence::InitializeWithLoopback => initialize_due(at, word),
+        Sequence::Initialize | Sequence::InitializeWithLoopback => initialize_due(at, word),
         Sequence::EnableLinearAddressing => enable_linear_addressing_due(at, config, word),
         Sequence::EnableIoMode => enable_io_mode_due(at, config, word),
         Sequence::Disable => disable_due(at, config),

@@ -2,6 +2,7 @@
 //! The Spansion S25FL256S, after the Rust file `zedboard-bsp/src/qspi_spansion.rs`: command bytes, and
 //! the fields of status register 1 and configuration register 1.
 
+use crate::zynq7000::bits;
 use crate::zynq7000_hal::qspi::OperatingMode;
 use crate::zynq7000_hal::qspi::QspiDeviceCombination;
 use crate::zynq7000_hal::qspi::QspiVendor;
@@ -39,48 +40,35 @@ pub const QSPI_DEV_COMBINATION_REV_F: QspiDeviceCombination = QspiDeviceCombinat
 #[derive(Clone, Copy, Debug, PartialEq, Eq)]
 pub enum RegisterId {
     // WRR
-    WriteRegisters,
+    WriteRegisters = 0x01,
     // PP
-    PageProgram,
+    PageProgram = 0x02,
     // READ
-    Read,
+    Read = 0x03,
     // WRDI
-    WriteDisable,
+    WriteDisable = 0x04,
     // RDSR1
-    ReadStatus1,
+    ReadStatus1 = 0x05,
     // WREN
-    WriteEnable,
+    WriteEnable = 0x06,
     // RDSR2
-    ReadStatus2,
+    ReadStatus2 = 0x07,
     // FAST_READ
-    FastRead,
+    FastRead = 0x0B,
     // CLSR
-    ClearStatus,
+    ClearStatus = 0x30,
     // RDCR
-    ReadConfig,
+    ReadConfig = 0x35,
     // RDID
-    ReadId,
+    ReadId = 0x9F,
     // SE
-    SectorErase,
+    SectorErase = 0xD8,
 }
 
 impl RegisterId {
     // The command's byte.
     pub fn raw_value(self) -> u8 {
-        match self {
-            RegisterId::WriteRegisters => 0x01,
-            RegisterId::PageProgram => 0x02,
-            RegisterId::Read => 0x03,
-            RegisterId::WriteDisable => 0x04,
-            RegisterId::ReadStatus1 => 0x05,
-            RegisterId::WriteEnable => 0x06,
-            RegisterId::ReadStatus2 => 0x07,
-            RegisterId::FastRead => 0x0B,
-            RegisterId::ClearStatus => 0x30,
-            RegisterId::ReadConfig => 0x35,
-            RegisterId::ReadId => 0x9F,
-            RegisterId::SectorErase => 0xD8,
-        }
+        self as u8
     }
 }
 
@@ -102,7 +90,7 @@ impl StatusRegister1 {
     // WIP
     pub const WRITE_IN_PROGRESS: u32 = 0;
 
-    // The lowest bits of the fields, from bit 7 down.
+    // The lowest bits of the fields, from bit 7 down. As in `zynq7000`, each register lists its own constants.
     pub fn field_bits() -> [u32; 6] {
         [
             Self::STATUS_REGISTER_WRITE_DISABLE,
@@ -115,11 +103,11 @@ impl StatusRegister1 {
     }
 
     pub fn programming_error(self) -> bool {
-        (self.0 >> Self::PROGRAMMING_ERROR) % 2 == 1
+        bits::is_set(self.0 as u32, Self::PROGRAMMING_ERROR)
     }
 
     pub fn erase_error(self) -> bool {
-        (self.0 >> Self::ERASE_ERROR) % 2 == 1
+        bits::is_set(self.0 as u32, Self::ERASE_ERROR)
     }
 
     pub fn block_protection(self) -> u8 {
@@ -127,7 +115,7 @@ impl StatusRegister1 {
     }
 
     pub fn write_in_progress(self) -> bool {
-        (self.0 >> Self::WRITE_IN_PROGRESS) % 2 == 1
+        bits::is_set(self.0 as u32, Self::WRITE_IN_PROGRESS)
     }
 }
 

@@ -1,6 +1,8 @@
 // Made by tools/erase from crates/zynq7000/src/bits.rt; a change belongs there.
 //! One bit of a register word, by its number: bit 0 is the lowest. Crates above pass a number below
 //! 32; `proofs/BitLaws.antt` shows that setting and clearing leave every other bit as it was.
+//! The number has no type of its own: each is a constant of a register, by which words are shifted too,
+//! so that a type would be taken apart at every use.
 
 // Whether the bit is set.
 // requires { at < 32 }
@@ -11,7 +13,7 @@ pub fn is_set(word: u32, at: u32) -> bool {
 // The word with the bit set.
 // requires { at < 32 }
 pub fn put(word: u32, at: u32) -> u32 {
-    if (word >> at) % 2 == 1 {
+    if is_set(word, at) {
         word
     } else {
         word + (1 << at)
@@ -21,7 +23,7 @@ pub fn put(word: u32, at: u32) -> u32 {
 // The word with the bit clear.
 // requires { at < 32 }
 pub fn clear(word: u32, at: u32) -> u32 {
-    if (word >> at) % 2 == 0 {
+    if !is_set(word, at) {
         word
     } else {
         word - (1 << at)

@@ -19,8 +19,7 @@ impl Clocks {
     // The clock of a source.
     pub fn ref_clk(self, src_sel: SrcSelIo) -> u32 {
         match src_sel {
-            SrcSelIo::IoPll => self.io_ref_clk,
-            SrcSelIo::IoPllAlt => self.io_ref_clk,
+            SrcSelIo::IoPll | SrcSelIo::IoPllAlt => self.io_ref_clk,
             SrcSelIo::ArmPll => self.arm_ref_clk,
             SrcSelIo::DdrPll => self.ddr_ref_clk,
         }

@@ -22,38 +22,28 @@ pub const MAX_BYTES_PER_TRANSFER_IO_MODE: usize = FIFO_DEPTH * 4;
 // How many of the words behind the command word are written before start: all, or until the FIFO is
 // full.
 pub fn prefill(fifo_writes: u32) -> u32 {
-    if fifo_writes < FIFO_DEPTH as u32 - 1 {
-        fifo_writes
-    } else {
-        FIFO_DEPTH as u32 - 1
-    }
+    fifo_writes.min(FIFO_DEPTH as u32 - 1)
 }
 
-// Why there is no clock configuration.
+// Why there is no clock configuration, by the refusal's number.
 #[derive(Clone, Copy, Debug, PartialEq, Eq)]
 pub enum ClockCalculationError {
     // The QSPI reference clock is below the CPU 1x clock.
-    RefClockSmallerThanCpu1xClock,
+    RefClockSmallerThanCpu1xClock = 7,
     // The reference clock divisor is out of range.
-    RefDivOutOfRange,
+    RefDivOutOfRange = 6,
     // A clock to divide by is 0.
-    ZeroClock,
+    ZeroClock = 8,
     // Twice the loopback target does not fit 32 bits.
-    TargetTooFast,
+    TargetTooFast = 9,
     // The baud rate divisor would have to be above 256.
-    BaudDivOutOfRange,
+    BaudDivOutOfRange = 31,
 }
 
 impl ClockCalculationError {
     // The refusal's number.
     pub fn number(self) -> u8 {
-        match self {
-            ClockCalculationError::RefClockSmallerThanCpu1xClock => 7,
-            ClockCalculationError::RefDivOutOfRange => 6,
-            ClockCalculationError::ZeroClock => 8,
-            ClockCalculationError::TargetTooFast => 9,
-            ClockCalculationError::BaudDivOutOfRange => 31,
-        }
+        self as u8
     }
 }
 
@@ -86,19 +76,6 @@ pub struct ClockConfig {
     pub baud_rate_config: BaudRateConfig,
 }
 
-// What a clock calculation answers.
-#[derive(Clone, Copy, Debug, PartialEq, Eq)]
-pub enum ClockCalculation {
-    Config(ClockConfig),
-    Refused(ClockCalculationError),
-}
-
-// n over d, rounded up.
-// requires { 0 < d }
-fn div_ceil(n: u32, d: u32) -> u32 {
-    if n % d == 0 { n / d } else { n / d + 1 }
-}
-
 // The smallest power of two from 2 to 256 that is not below the quotient.
 // requires { quotient ≤ 256 }
 fn baud_rate_div(quotient: u32) -> BaudRateDivisor {
@@ -121,18 +98,18 @@ fn baud_rate(
     qspi_ref_clk: u32,
     cpu_1x_clk: u32,
     interface_target: u32,
-) -> ClockCalculation {
+) -> Result<ClockConfig, ClockCalculationError> {
     if qspi_ref_clk < cpu_1x_clk {
-        return ClockCalculation::Refused(ClockCalculationError::RefClockSmallerThanCpu1xClock);
+        return Err(ClockCalculationError::RefClockSmallerThanCpu1xClock);
     }
     if interface_target == 0 {
-        return ClockCalculation::Refused(ClockCalculationError::ZeroClock);
+        return Err(ClockCalculationError::ZeroClock);
     }
-    let quotient = div_ceil(qspi_ref_clk, interface_target);
+    let quotient = qspi_ref_clk.div_ceil(interface_target);
     if 256 < quotient {
-        return ClockCalculation::Refused(ClockCalculationError::BaudDivOutOfRange);
+        return Err(ClockCalculationError::BaudDivOutOfRange);
     }
-    ClockCalculation::Config(ClockConfig {
+    Ok(ClockConfig {
         src_sel,
         ref_clk_div,
         baud_rate_config: BaudRateConfig::WithoutLoopback(baud_rate_div(quotient)),
@@ -145,19 +122,19 @@ impl ClockConfig {
         src_sel: SrcSelIo,
         clocks: Clocks,
         target_qspi_interface_clock: u32,
-    ) -> ClockCalculation {
+    ) -> Result<ClockConfig, ClockCalculationError> {
         if 0x7FFF_FFFF < target_qspi_interface_clock {
-            return ClockCalculation::Refused(ClockCalculationError::TargetTooFast);
+            return Err(ClockCalculationError::TargetTooFast);
         }
         if target_qspi_interface_clock == 0 {
-            return ClockCalculation::Refused(ClockCalculationError::ZeroClock);
+            return Err(ClockCalculationError::ZeroClock);
         }
         let target_ref_clock = target_qspi_interface_clock * 2;
-        let ref_clk_div = div_ceil(clocks.ref_clk(src_sel), target_ref_clock);
+        let ref_clk_div = clocks.ref_clk(src_sel).div_ceil(target_ref_clock);
         if 63 < ref_clk_div {
-            return ClockCalculation::Refused(ClockCalculationError::RefDivOutOfRange);
+            return Err(ClockCalculationError::RefDivOutOfRange);
         }
-        ClockCalculation::Config(ClockConfig {
+        Ok(ClockConfig {
             src_sel,
             ref_clk_div: ref_clk_div as u8,
             baud_rate_config: BaudRateConfig::WithLoopback,
@@ -170,25 +147,24 @@ impl ClockConfig {
         clocks: Clocks,
         target_qspi_ref_clock: u32,
         target_qspi_interface_clock: u32,
-    ) -> ClockCalculation {
+    ) -> Result<ClockConfig, ClockCalculationError> {
         let ref_clk = clocks.ref_clk(src_sel);
         if target_qspi_ref_clock == 0 {
-            return ClockCalculation::Refused(ClockCalculationError::ZeroClock);
+            return Err(ClockCalculationError::ZeroClock);
         }
-        let ref_clk_div = div_ceil(ref_clk, target_qspi_ref_clock);
+        let ref_clk_div = ref_clk.div_ceil(target_qspi_ref_clock);
         if 63 < ref_clk_div {
-            return ClockCalculation::Refused(ClockCalculationError::RefDivOutOfRange);
+            return Err(ClockCalculationError::RefDivOutOfRange);
         }
         if ref_clk == 0 {
-            return ClockCalculation::Refused(ClockCalculationError::ZeroClock);
+            return Err(ClockCalculationError::ZeroClock);
         }
         let qspi_ref_clk = ref_clk / ref_clk_div;
-        let cpu_1x_clk = clocks.cpu_1x_clk;
         baud_rate(
             src_sel,
             ref_clk_div as u8,
             qspi_ref_clk,
-            cpu_1x_clk,
+            clocks.cpu_1x_clk,
             target_qspi_interface_clock,
         )
     }
@@ -220,22 +196,34 @@ pub struct QspiDeviceCombination {
 pub fn linear_mode_config_for_common_devices(
     dev_combination: QspiDeviceCombination,
 ) -> LinearQspiConfig {
-    let vendor = dev_combination.vendor;
     let mode = dev_combination.operating_mode;
-    let two = dev_combination.two_devices;
-    match mode {
-        InstructionCode::Read => lqspi_configs::linear_read(mode, false, 0, two),
-        InstructionCode::FastRead => lqspi_configs::linear_read(mode, false, 1, two),
-        InstructionCode::FastReadDualOutput => lqspi_configs::linear_read(mode, false, 1, two),
-        InstructionCode::FastReadQuadOutput => lqspi_configs::linear_read(mode, false, 1, two),
-        InstructionCode::FastReadDualIo => match vendor {
-            QspiVendor::WinbondAndSpansion => lqspi_configs::linear_read(mode, true, 0, two),
-            QspiVendor::Micron => lqspi_configs::linear_read(mode, true, 1, two),
-        },
-        InstructionCode::FastReadQuadIo => match vendor {
-            QspiVendor::WinbondAndSpansion => lqspi_configs::linear_read(mode, true, 2, two),
-            QspiVendor::Micron => lqspi_configs::linear_read(mode, true, 4, two),
-        },
+    lqspi_configs::linear_read(
+        mode,
+        sends_mode(mode),
+        dummy_bytes(dev_combination.vendor, mode),
+        dev_combination.two_devices,
+    )
+}
+
+// Whether mode bits follow the address: they do where it goes over several lines.
+fn sends_mode(mode: OperatingMode) -> bool {
+    matches!(
+        mode,
+        InstructionCode::FastReadDualIo | InstructionCode::FastReadQuadIo
+    )
+}
+
+// The dummy bytes between address and data, a line for each row of UG585's table 12-3.
+fn dummy_bytes(vendor: QspiVendor, mode: OperatingMode) -> u32 {
+    match (mode, vendor) {
+        (InstructionCode::Read, _) => 0,
+        (InstructionCode::FastRead, _) => 1,
+        (InstructionCode::FastReadDualOutput, _) => 1,
+        (InstructionCode::FastReadQuadOutput, _) => 1,
+        (InstructionCode::FastReadDualIo, QspiVendor::WinbondAndSpansion) => 0,
+        (InstructionCode::FastReadDualIo, QspiVendor::Micron) => 1,
+        (InstructionCode::FastReadQuadIo, QspiVendor::WinbondAndSpansion) => 2,
+        (InstructionCode::FastReadQuadIo, QspiVendor::Micron) => 4,
     }
 }
 
@@ -252,28 +240,19 @@ pub fn io_mode_config(dual_flash: bool) -> LinearQspiConfig {
     )
 }
 
-// Whether `initialize` writes the loopback delay register, and what.
-#[derive(Clone, Copy, Debug, PartialEq, Eq)]
-pub enum LoopbackWrite {
-    Word(u32),
-    Nothing,
-}
-
 // The words of `initialize`: the clock control word that it returns, and what it writes to the QSPI
 // block.
 #[derive(Clone, Copy, Debug, PartialEq, Eq)]
 pub struct InitializeWords {
     pub lqspi_clk_ctrl: u32,
     pub config: u32,
-    pub loopback: LoopbackWrite,
+    // To the loopback delay register, where it is written at all.
+    pub loopback: Option<u32>,
 }
 
+// The clock divisor is wider than its six bits (refusal 12).
 #[derive(Clone, Copy, Debug, PartialEq, Eq)]
-pub enum Initialization {
-    Words(InitializeWords),
-    // The clock divisor is wider than its six bits.
-    FieldTooWide,
-}
+pub struct FieldTooWide;
 
 // The config word of `initialize` after each field, put together in the order of UG585's table of the
 // register, from bit 31 down: the field's bits, its name there and its value. The last is the word that
@@ -338,25 +317,26 @@ fn clk_ctrl_word(divisor: u8, source: SrcSelIo) -> u32 {
         + (1 << SingleCommonPeriphIoClockControl::CLK_ACT)
 }
 
-fn loopback_write(config: BaudRateConfig) -> LoopbackWrite {
+fn loopback_write(config: BaudRateConfig) -> Option<u32> {
     match config {
-        BaudRateConfig::WithLoopback => {
-            LoopbackWrite::Word(1 << LoopbackMasterClockDelay::USE_LOOPBACK)
-        }
-        BaudRateConfig::WithoutLoopback(_) => LoopbackWrite::Nothing,
+        BaudRateConfig::WithLoopback => Some(1 << LoopbackMasterClockDelay::USE_LOOPBACK),
+        BaudRateConfig::WithoutLoopback(_) => None,
     }
 }
 
-// The words of `initialize` for a clock configuration, a phase and a polarity.
-pub fn initialize_words(clock_config: ClockConfig, phase: bool, polarity: bool) -> Initialization {
+// The words of `initialize` for a clock configuration, a phase and a polarity (two flags, as C passes them).
+pub fn initialize_words(
+    clock_config: ClockConfig,
+    phase: bool,
+    polarity: bool,
+) -> Result<InitializeWords, FieldTooWide> {
     let divisor = clock_config.ref_clk_div;
-    let src_sel = clock_config.src_sel;
     let baud_rate_config = clock_config.baud_rate_config;
     if 63 < divisor {
-        return Initialization::FieldTooWide;
+        return Err(FieldTooWide);
     }
-    Initialization::Words(InitializeWords {
-        lqspi_clk_ctrl: clk_ctrl_word(divisor, src_sel),
+    Ok(InitializeWords {
+        lqspi_clk_ctrl: clk_ctrl_word(divisor, clock_config.src_sel),
         config: config_word(baud_rate_config.baud_rate_divisor(), phase, polarity),
         loopback: loopback_write(baud_rate_config),
     })

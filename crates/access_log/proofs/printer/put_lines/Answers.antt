@@ -1,53 +1,51 @@
-use Rattle.std.proofs.Common.{◌≤◌, length, false, arith}
-use Rattle.access_log.specs.Log.{entry_at}
-use Rattle.access_log.proofs.Finding.{found_there, found_next}
-use Rattle.access_log.proofs.Rendering.{Result, answers, goes_on, stops_at_end, stops_at_bad, stops_at_most}
+use Rattle.std.proofs.Common.{◌≤◌, length, false, refl, ap, ◌∙◌, arith}
+use Rattle.std.specs.Prelude.{Some}
+use Rattle.access_log.specs.Log.{entry_at, is_access}
+use Rattle.access_log.proofs.Finding.{reads, gives_entry, same_log, goes_behind}
+use Rattle.access_log.proofs.Rendering.{Result, goes_on, stops_at_end, stops_at_bad, stops_at_most}
 use Rattle.access_log.proofs.printer.put_lines.Goals as goal
 
--- src/printer.rt:72:27
-pub returns-in-End : goal.returns-in-End
-returns-in-End c =
+pub returns-in-None : goal.returns-in-None
+returns-in-None c =
     let a = c.args in
     let l = c.loop-at in
-    let found = found_there a.log.now l.at _ _ c.read_at-found.ensures.read c.in-End.is in
-    let both = answers c.new.ensures.fields (stops_at_end (entry_at a.log.now) a.first a.out.now l.out l.at l.invariant (omega arith) found) in
+    let turn = reads l.invariant.log l.invariant.at c.next.ensures.moved c.next.ensures.entry in
+    let found = gives_entry turn ∙ c.in-None.is in
+    let both = stops_at_end (entry_at a.log.now) a.first a.out.now l.out l.at l.invariant.rendering (omega arith) found in
     record { text = both.0; len = both.1.0; more = both.1.1 }
 
--- src/printer.rt:75:17
-pub returns-in-BadLog : goal.returns-in-BadLog
-returns-in-BadLog c =
+pub returns-in-Some-Err : goal.returns-in-Some-Err
+returns-in-Some-Err c =
     let a = c.args in
     let l = c.loop-at in
-    let room : 7200 ≤ length l.out = omega (arith, l.invariant.grown.same_length) in
-    let found = found_there a.log.now l.at _ _ c.read_at-found.ensures.read c.in-BadLog.is in
-    let stopped : Result (entry_at a.log.now) a.first a.out.now c.put_bad.new.out c.put_bad.result false =
-    rw (c.put_bad.ensures.written, c.put_bad.ensures.end)
-    (stops_at_bad (entry_at a.log.now) a.first a.out.now l.out l.at l.invariant (omega arith) room _ _ found c.wrapping_add_u64-number.ensures.value) in
-    let both = answers c.new-in-BadLog.ensures.fields stopped in
+    let bad = c.in-Some-Err in
+    let room : 7200 ≤ length l.out = omega (arith, l.invariant.rendering.grown.same_length) in
+    let turn = reads l.invariant.log l.invariant.at c.next.ensures.moved c.next.ensures.entry in
+    let found = gives_entry turn ∙ (bad.is ∙ ap Some bad.field-0-is) in
+    let both : Result (entry_at a.log.now) a.first a.out.now c.put_bad-len.new.out c.put_bad-len.result false =
+    rw (c.put_bad-len.ensures.written, c.put_bad-len.ensures.end)
+    (stops_at_bad (entry_at a.log.now) a.first a.out.now l.out l.at l.invariant.rendering (omega arith) room _ _ found refl) in
     record { text = both.0; len = both.1.0; more = both.1.1 }
 
--- src/printer.rt:67:5
-pub loop-at-smaller : goal.loop-at-smaller
-loop-at-smaller c =
-    let a = c.args in
-    let l = c.loop-at in
-    omega (arith, found_next a.log.now l.at _ _ c.read_at-found.ensures.read c.in-Access.is)
-
--- src/printer.rt:67:5
 pub loop-at-preserved : goal.loop-at-preserved
 loop-at-preserved c =
     let a = c.args in
     let l = c.loop-at in
-    let room : 7200 ≤ length l.out = omega (arith, l.invariant.grown.same_length) in
-    let found = found_there a.log.now l.at _ _ c.read_at-found.ensures.read c.in-Access.is in
-    let next = found_next a.log.now l.at _ _ c.read_at-found.ensures.read c.in-Access.is in
-    rw (c.put_line.ensures.written, next)
-    (goes_on (entry_at a.log.now) a.first a.out.now l.out l.at l.invariant (omega arith) room _ found)
+    let room : 7200 ≤ length l.out = omega (arith, l.invariant.rendering.grown.same_length) in
+    let is = c.in-Some-Ok.is ∙ ap Some c.in-Some-Ok.field-0-is in
+    let turn = reads l.invariant.log l.invariant.at c.next.ensures.moved c.next.ensures.entry in
+    let found = gives_entry turn ∙ is in
+    record {
+      log = same_log turn;
+      at = goes_behind turn (ap is_access is);
+      rendering =
+          rw c.put_line.ensures.written
+          (goes_on (entry_at a.log.now) a.first a.out.now l.out l.at l.invariant.rendering (omega arith) room _ found);
+    }
 
--- src/printer.rt:60:1
 pub returns : goal.returns
 returns c =
     let a = c.args in
     let l = c.loop-at in
-    let both = answers c.new-2.ensures.fields (stops_at_most (entry_at a.log.now) a.first a.out.now l.out l.at l.invariant (omega arith)) in
+    let both = stops_at_most (entry_at a.log.now) a.first a.out.now l.out l.at l.invariant.rendering (omega arith) in
     record { text = both.0; len = both.1.0; more = both.1.1 }

@@ -1,60 +1,29 @@
-use Rattle.std.proofs.Common.{◌≡◌, ℕ, ◌+◌, ◌-◌, ◌<◌, ◌≤◌, Bool, true, false, List, length, ap, ◌∙◌, arith}
-use Rattle.access_log.specs.declared.Entry.{Entry}
-use Rattle.access_log.specs.declared.reader.Found.{Found}
-use Rattle.access_log.specs.declared.reader.LogReader.{LogReader}
-use Rattle.access_log.specs.Log.{is_access, entry_at}
-use Rattle.access_log.specs.Reader.{found_at, first_other, accesses_in}
-use Rattle.access_log.proofs.Counting.{State, tested, below, left_on, ends}
-use Rattle.access_log.proofs.Finding.{next_on}
+use Rattle.std.proofs.Common.{refl, sym, ap, ◌∙◌, arith}
+use Rattle.access_log.specs.Log.{is_access}
+use Rattle.access_log.proofs.Counting.{below, left_on, ends}
+use Rattle.access_log.proofs.Finding.{reads, gives_entry, same_log, goes_behind, stays_there}
 use Rattle.access_log.proofs.reader.accesses.Goals as goal
 
-abbrev state : (log : List ℕ) (n : ℕ) → n ≤ length log → first_other (length log - n) (entry_at log) n ≡ accesses_in log → State log
-state log n h e = record { k = length log - n; n = n; sum = omega arith; left = e }
+pub loop-smaller : goal.loop-smaller
+loop-smaller c =
+    let turn = reads c.loop.invariant.log refl c.next.ensures.moved c.next.ensures.entry in
+    let is = sym c.is_access.ensures.access ∙ c.loop-test.true in
+    omega (arith, goes_behind turn is, below _ _ c.loop.invariant.left (ap is_access (gives_entry turn) ∙ is))
 
-found_same : (log log' : List ℕ) (at n : ℕ) → log' ≡ log → at ≡ n → found_at log' at ≡ found_at log n
-found_same log log' at n p q = cc
-
--- what the test says of the entry at the place where the reader stands
-tested_there : (log log' : List ℕ) (at n : ℕ) → log' ≡ log → at ≡ n → (r : Entry) (y b : Bool) → r ≡ (found_at log' at).entry → y ≡ is_access r → y ≡ b
-    → is_access (entry_at log n) ≡ b
-tested_there log log' at n p q r y b e f g = tested log n r y b (e ∙ ap (λ (x : Found). x.entry) (found_same log log' at n p q)) f g
-
-next_there : (log log' : List ℕ) (at n : ℕ) → log' ≡ log → at ≡ n → is_access (entry_at log n) ≡ true → (found_at log' at).next ≡ n + 1
-next_there log log' at n p q e = ap (λ (x : Found). x.next) (found_same log log' at n p q) ∙ next_on log n e
-
--- src/reader.rt:72:5
-pub loop-reader-smaller : goal.loop-reader-smaller
-loop-reader-smaller c =
-    let l = c.loop-reader in
-    let log : List ℕ = c.args.log.now in
-    let e : is_access (entry_at log l.count) ≡ true =
-    tested_there log _ _ l.count l.invariant.log l.invariant.at _ _ true c.next.ensures.entry c.is_access.ensures.access c.loop-reader-test.true in
-    omega (arith, below log (state log l.count l.invariant.within l.invariant.left) e)
-
--- src/reader.rt:72:5
-pub loop-reader-preserved : goal.loop-reader-preserved
-loop-reader-preserved c =
-    let l = c.loop-reader in
-    let log : List ℕ = c.args.log.now in
-    let e : is_access (entry_at log l.count) ≡ true =
-    tested_there log _ _ l.count l.invariant.log l.invariant.at _ _ true c.next.ensures.entry c.is_access.ensures.access c.loop-reader-test.true in
-    let t : State log = state log l.count l.invariant.within l.invariant.left in
-    let inside : l.count < length log = below log t e in
-    let k : length log - (l.count + 1) ≡ length log - l.count - 1 = omega arith in
+pub loop-preserved : goal.loop-preserved
+loop-preserved c =
+    let turn = reads c.loop.invariant.log refl c.next.ensures.moved c.next.ensures.entry in
+    let is = sym c.is_access.ensures.access ∙ c.loop-test.true in
+    let behind = goes_behind turn is in
+    let access = ap is_access (gives_entry turn) ∙ is in
     record {
-      log = ap (λ (r : LogReader). r.log.now) c.next.ensures.moved ∙ l.invariant.log;
-      at =
-          ap (λ (r : LogReader). r.at) c.next.ensures.moved
-          ∙ next_there log _ _ l.count l.invariant.log l.invariant.at e;
-      within = omega (arith, inside);
-      left = ap (λ (i : ℕ). first_other i (entry_at log) (l.count + 1)) k ∙ left_on log t e;
+      log = same_log turn;
+      within = omega (arith, behind, below _ _ c.loop.invariant.left access);
+      left = rw behind (left_on _ _ c.loop.invariant.left access);
     }
 
--- src/reader.rt:67:1
 pub returns : goal.returns
 returns c =
-    let l = c.loop-reader in
-    let log : List ℕ = c.args.log.now in
-    let e : is_access (entry_at log l.count) ≡ false =
-    tested_there log _ _ l.count l.invariant.log l.invariant.at _ _ false c.next.ensures.entry c.is_access.ensures.access c.loop-reader-test.false in
-    record { accesses = ends log (state log l.count l.invariant.within l.invariant.left) e }
+    let turn = reads c.loop.invariant.log refl c.next.ensures.moved c.next.ensures.entry in
+    let none = sym c.is_access.ensures.access ∙ c.loop-test.false in
+    record { accesses = stays_there turn none ∙ ends _ _ c.loop.invariant.left (ap is_access (gives_entry turn) ∙ none) }

@@ -1,9 +1,5 @@
-use Rattle.std.proofs.Common.{◌≡◌, ◌-◌, length}
+use Rattle.std.proofs.Common.{◌≡◌, ◌≤◌, length}
 use Rattle.cut_cases.proofs.row.run.Given as goal
 
-abbrev pub invariant-loop-left : goal.invariant-loop-left
-invariant-loop-left l = length l.log ≡ length l.initial.log
-
--- proposed from the loop's first test
-abbrev pub decreases-loop-left : goal.decreases-loop-left
-decreases-loop-left l = l.left
+abbrev pub invariant-loop-call : goal.invariant-loop-call
+invariant-loop-call l = (length l.log ≡ length l.initial.log) × (l.made.used ≤ length l.initial.log)

@@ -1,4 +1,3 @@
-use Rattle.std.proofs.Common.{◌-◌}
 use Rattle.qspi_calls.proofs.Promised.{commanded}
 use Rattle.qspi_calls.proofs.run.command.Goals as goal
 

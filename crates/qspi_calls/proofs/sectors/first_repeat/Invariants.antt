@@ -1,10 +1,5 @@
-use Rattle.std.proofs.Common.{length, ◌-◌, ◌≤◌}
 use Rattle.qspi_calls.proofs.ListLoops.{Distinct}
 use Rattle.qspi_calls.proofs.sectors.first_repeat.Given as goal
 
 abbrev pub invariant-loop-at : goal.invariant-loop-at
-invariant-loop-at l = (l.at ≤ length l.list) × Distinct l.list l.at
-
--- proposed from the loop's first test
-abbrev pub decreases-loop-at : goal.decreases-loop-at
-decreases-loop-at l = length l.list - l.at
+invariant-loop-at l = Distinct l.list l.at

@@ -1,14 +1,12 @@
-use Rattle.std.proofs.Common.{◌-◌}
+use borrow.Author.Tests.{lt-ltb, le-ltb}
 use native.Mathlib.Omega.{arith}
 use Rattle.qspi_calls.proofs.start.new.Goals as goal
 use Rattle.qspi_calls.proofs.Begins as begins
 
--- src/start.rt:289:1
-pub returns-in-AsRead-clause-begins : goal.returns-in-AsRead-clause-begins
-returns-in-AsRead-clause-begins c =
-    let both = begins.new c.args.config _ (omega (arith, c.well_formed)) _ (simp (c.configuring.ensures.start, c.in-AsRead.is)) in both.1
+pub returns-then-unwrap_or-gt3-clause-begins : goal.returns-then-unwrap_or-gt3-clause-begins
+returns-then-unwrap_or-gt3-clause-begins c =
+    begins.new c.args.config _ (omega (arith, c.well_formed)) _ (simp (c.over.ensures.start, ← c.unwrap_or.ensures, lt-ltb _ _ c.if-unwrap_or-gt3.true, c.updating-job.ensures.job, c.may_update.ensures.stage))
 
--- src/start.rt:289:1
-pub returns-in-Code-clause-begins : goal.returns-in-Code-clause-begins
-returns-in-Code-clause-begins c =
-    let both = begins.new c.args.config _ (omega (arith, c.well_formed)) _ (simp (c.configuring-in-Code.ensures.start, c.in-Code.is)) in both.1
+pub returns-else-unwrap_or-gt3-clause-begins : goal.returns-else-unwrap_or-gt3-clause-begins
+returns-else-unwrap_or-gt3-clause-begins c =
+    begins.new c.args.config _ (omega (arith, c.well_formed)) _ (simp (c.going.ensures.start, c.at.ensures.place, ← c.unwrap_or.ensures, le-ltb _ _ c.if-unwrap_or-gt3.false, c.updating-job.ensures.job, c.may_update.ensures.stage))

@@ -1,4 +1,3 @@
-use Rattle.std.proofs.Common.{◌-◌}
 use native.Mathlib.Omega.{arith}
 use Rattle.qspi_calls.proofs.start.read_status_register_1.Goals as goal
 use Rattle.qspi_calls.proofs.Begins as begins
@@ -6,4 +5,4 @@ use Rattle.qspi_calls.proofs.Begins as begins
 -- src/start.rt:160:1
 pub returns-clause-begins : goal.returns-clause-begins
 returns-clause-begins c =
-    let both = begins.read_status_register_1 _ (omega (arith, c.well_formed)) _ c.one_transfer.ensures.start in both.1
+    begins.read_status_register_1 _ (omega (arith, c.well_formed)) _ c.one_transfer.ensures.start

@@ -1,4 +1,3 @@
-use Rattle.std.proofs.Common.{◌-◌}
 use Rattle.qspi_driver.proofs.Promised.{answers}
 use Rattle.qspi_driver.proofs.state.answer_so_far.Goals as goal
 

@@ -1,4 +1,4 @@
-use Rattle.std.proofs.Common.{◌-◌, Bool, false}
+use Rattle.std.proofs.Common.{Bool, false}
 use Rattle.qspi_operation.specs.Step.{erases_list}
 use Rattle.qspi_driver.specs.State.{begun_if}
 use mathlib.Core.Path.{sym, ap, ◌∙◌}

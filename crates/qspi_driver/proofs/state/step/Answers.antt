@@ -1,4 +1,3 @@
-use Rattle.std.proofs.Common.{◌-◌}
 use Rattle.qspi_driver.specs.State.{acted_by}
 use mathlib.Core.Path.{ap, ◌∙◌}
 use Rattle.qspi_driver.proofs.Promised.{steps_with}

@@ -1,9 +1,12 @@
+use mathlib.Core.Path.{sym, ◌∙◌}
 use native.Mathlib.Omega.{arith}
+use borrow.Author.Tests.{eqb-false}
+use Rattle.zynq7000.specs.Bits.{bit}
 use Rattle.zynq7000.proofs.BitLaws.{weight, put_clear, put_fits}
 use Rattle.zynq7000.proofs.bits.put.Goals as goal
 
--- src/bits.rt:22:9
 pub overflow_add-result : goal.overflow_add-result
 overflow_add-result c =
     let a = c.args in
-    omega (arith, weight a.at c.requires, put_clear a.at a.word (omega (arith, c.if-word-at-eq1.false)), put_fits a.at a.word c.requires (omega arith))
+    let unset = eqb-false (bit a.at a.word) 1 (sym c.is_set.ensures.bit ∙ c.if-is_set.false) in
+    omega (arith, weight a.at c.requires, put_clear a.at a.word (omega (arith, unset)), put_fits a.at a.word c.requires (omega arith))

@@ -3,45 +3,64 @@
 
 use crate::zedboard_bsp::qspi_spansion::words;
 
+// A byte that the Rust doesn't list as a code (refusal 11).
+#[derive(Clone, Copy, Debug, PartialEq, Eq)]
+pub struct UnknownCode(pub u8);
+
 #[derive(Clone, Copy, Debug, PartialEq, Eq)]
 pub enum MemoryInterfaceType {
-    _128Mb,
-    _256Mb,
+    _128Mb = 0x20,
+    _256Mb = 0x02,
 }
 
-// The type of a code, or the byte that is none (refusal 11).
-#[derive(Clone, Copy, Debug, PartialEq, Eq)]
-pub enum MemoryInterfaceTypeCode {
-    Known(MemoryInterfaceType),
-    UnknownCode(u8),
+impl TryFrom<u8> for MemoryInterfaceType {
+    type Error = UnknownCode;
+
+    fn try_from(code: u8) -> Result<Self, UnknownCode> {
+        match code {
+            0x20 => Ok(MemoryInterfaceType::_128Mb),
+            0x02 => Ok(MemoryInterfaceType::_256Mb),
+            _ => Err(UnknownCode(code)),
+        }
+    }
 }
 
 #[derive(Clone, Copy, Debug, PartialEq, Eq)]
 pub enum Density {
-    _128Mb,
-    _256Mb,
+    _128Mb = 0x18,
+    _256Mb = 0x19,
 }
 
-// The density of a code, or the byte that is none (refusal 11).
-#[derive(Clone, Copy, Debug, PartialEq, Eq)]
-pub enum DensityCode {
-    Known(Density),
-    UnknownCode(u8),
+impl TryFrom<u8> for Density {
+    type Error = UnknownCode;
+
+    fn try_from(code: u8) -> Result<Self, UnknownCode> {
+        match code {
+            0x18 => Ok(Density::_128Mb),
+            0x19 => Ok(Density::_256Mb),
+            _ => Err(UnknownCode(code)),
+        }
+    }
 }
 
 #[derive(Clone, Copy, Debug, PartialEq, Eq)]
 pub enum SectorArchictecture {
     // Uniform 256 kB sectors.
-    Uniform,
+    Uniform = 0x00,
     // 32 4kB sectors and 64 kB sectors.
-    Hybrid,
+    Hybrid = 0x01,
 }
 
-// The architecture of a code, or the byte that is none (refusal 11).
-#[derive(Clone, Copy, Debug, PartialEq, Eq)]
-pub enum SectorArchictectureCode {
-    Known(SectorArchictecture),
-    UnknownCode(u8),
+impl TryFrom<u8> for SectorArchictecture {
+    type Error = UnknownCode;
+
+    fn try_from(code: u8) -> Result<Self, UnknownCode> {
+        match code {
+            0x00 => Ok(SectorArchictecture::Uniform),
+            0x01 => Ok(SectorArchictecture::Hybrid),
+            _ => Err(UnknownCode(code)),
+        }
+    }
 }
 
 #[derive(Clone, Copy, Debug, PartialEq, Eq)]
@@ -61,7 +80,7 @@ impl BaseDeviceId {
     // The id in the reply to RDID. Its first byte came in while the command went out.
     pub fn from_reply(reply: u32) -> BaseDeviceId {
         let raw = words::bytes_of(reply);
-        BaseDeviceId::new(raw[1], raw[2] as u16 * 256 + raw[3] as u16)
+        BaseDeviceId::new(raw[1], u16::from_be_bytes([raw[2], raw[3]]))
     }
 
     pub fn manufacturer_id(self) -> u8 {
@@ -72,22 +91,12 @@ impl BaseDeviceId {
         self.device_id
     }
 
-    pub fn memory_interface_type(self) -> MemoryInterfaceTypeCode {
-        let code = (self.device_id / 256) as u8;
-        match code {
-            0x20 => MemoryInterfaceTypeCode::Known(MemoryInterfaceType::_128Mb),
-            0x02 => MemoryInterfaceTypeCode::Known(MemoryInterfaceType::_256Mb),
-            _ => MemoryInterfaceTypeCode::UnknownCode(code),
-        }
+    pub fn memory_interface_type(self) -> Result<MemoryInterfaceType, UnknownCode> {
+        MemoryInterfaceType::try_from((self.device_id / 256) as u8)
     }
 
-    pub fn density(self) -> DensityCode {
-        let code = (self.device_id % 256) as u8;
-        match code {
-            0x18 => DensityCode::Known(Density::_128Mb),
-            0x19 => DensityCode::Known(Density::_256Mb),
-            _ => DensityCode::UnknownCode(code),
-        }
+    pub fn density(self) -> Result<Density, UnknownCode> {
+        Density::try_from((self.device_id % 256) as u8)
     }
 }
 
@@ -127,13 +136,8 @@ impl ExtendedDeviceId {
         self.sector_arch
     }
 
-    pub fn sector_arch(self) -> SectorArchictectureCode {
-        let code = self.sector_arch;
-        match code {
-            0x00 => SectorArchictectureCode::Known(SectorArchictecture::Uniform),
-            0x01 => SectorArchictectureCode::Known(SectorArchictecture::Hybrid),
-            _ => SectorArchictectureCode::UnknownCode(code),
-        }
+    pub fn sector_arch(self) -> Result<SectorArchictecture, UnknownCode> {
+        SectorArchictecture::try_from(self.sector_arch)
     }
 
     pub fn family_id(self) -> u8 {

@@ -13,10 +13,7 @@ use crate::zynq7000_hal::qspi::MAX_BYTES_PER_TRANSFER_IO_MODE;
 
 // Rule 1. A length beyond it by itself is told first, so that the sum does not overflow.
 pub fn out_of_range(addr: u32, length: usize) -> bool {
-    if LAST_END < length {
-        return true;
-    }
-    (LAST_END as u64) < addr as u64 + length as u64
+    LAST_END < length || (LAST_END as u64) < addr as u64 + length as u64
 }
 
 // What rule 2 asks for.
@@ -51,19 +48,12 @@ pub fn crosses_page(addr: u32, length: usize) -> bool {
 
 // Rule 10, as rule 1.
 pub fn spans_too_far(addr: u32, length: usize) -> bool {
-    if ADDRESS_SPAN < length as u64 {
-        return true;
-    }
-    ADDRESS_SPAN < addr as u64 + length as u64
+    ADDRESS_SPAN < length as u64 || ADDRESS_SPAN < addr as u64 + length as u64
 }
 
 // The next chunk of `write_pages` where so many bytes are left.
 pub fn page_chunk(left: usize) -> u8 {
-    if left < RECOMMENDED_PROGRAM_PAGE_SIZE {
-        left as u8
-    } else {
-        RECOMMENDED_PROGRAM_PAGE_SIZE as u8
-    }
+    left.min(RECOMMENDED_PROGRAM_PAGE_SIZE) as u8
 }
 
 // The largest chunk of a read: the FIFO holds the command word, a dummy byte and the data.
@@ -77,10 +67,5 @@ fn max_chunk_size(dummy: bool) -> usize {
 
 // The next chunk of a read where so many bytes are left.
 pub fn read_chunk(left: usize, dummy: bool) -> u8 {
-    let largest = max_chunk_size(dummy);
-    if left < largest {
-        left as u8
-    } else {
-        largest as u8
-    }
+    left.min(max_chunk_size(dummy)) as u8
 }

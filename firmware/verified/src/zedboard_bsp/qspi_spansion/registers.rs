@@ -13,12 +13,11 @@ fn quad_set(quad: bool, cr: u8) -> u8 {
 }
 
 // The configuration register with the quad bit and the latency code as asked.
-pub fn configured_cr(quad: bool, set_latency: bool, latency: u8, cr: u8) -> u8 {
+pub fn configured_cr(quad: bool, latency: Option<u8>, cr: u8) -> u8 {
     let with_quad = quad_set(quad, cr);
-    if set_latency {
-        latency % 4 * 64 + with_quad % 64
-    } else {
-        with_quad
+    match latency {
+        Some(latency) => latency % 4 * 64 + with_quad % 64,
+        None => with_quad,
     }
 }
 
@@ -32,19 +31,8 @@ pub fn configured_sr(clear: bool, sr: u8) -> u8 {
 }
 
 // Whether something that is asked for is not so yet.
-pub fn update_needed(
-    quad: bool,
-    set_latency: bool,
-    latency: u8,
-    clear: bool,
-    cr: u8,
-    sr: u8,
-) -> bool {
-    if quad && cr / 2 % 2 == 0 {
-        return true;
-    }
-    if set_latency && cr / 64 % 4 != latency % 4 {
-        return true;
-    }
-    clear && sr / 4 % 8 != 0
+pub fn update_needed(quad: bool, latency: Option<u8>, clear: bool, cr: u8, sr: u8) -> bool {
+    (quad && cr / 2 % 2 == 0)
+        || latency.is_some_and(|latency| cr / 64 % 4 != latency % 4)
+        || (clear && sr / 4 % 8 != 0)
 }

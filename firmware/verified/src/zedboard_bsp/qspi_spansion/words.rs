@@ -5,7 +5,7 @@ use crate::zedboard_bsp::qspi_spansion::RegisterId;
 
 // The word of four bytes in the order sent.
 pub fn data_word(a: u8, b: u8, c: u8, d: u8) -> u32 {
-    a as u32 + b as u32 * 0x100 + c as u32 * 0x10000 + d as u32 * 0x1000000
+    u32::from_le_bytes([a, b, c, d])
 }
 
 // A command without an address.
@@ -15,9 +15,7 @@ pub fn command_only(command: RegisterId) -> u32 {
 
 // A command and the low 24 bits of its address, high byte first.
 pub fn command_word(command: RegisterId, addr: u32) -> u32 {
-    let high = (addr / 0x10000 % 0x100) as u8;
-    let middle = (addr / 0x100 % 0x100) as u8;
-    let low = (addr % 0x100) as u8;
+    let [_, high, middle, low] = addr.to_be_bytes();
     data_word(command.raw_value(), high, middle, low)
 }
 
@@ -33,15 +31,10 @@ pub fn write_registers_word(sr: u8, cr: u8) -> u32 {
 
 // The status or configuration byte of a reply: little-endian, so the second byte received is on top.
 pub fn top_byte(reply: u32) -> u8 {
-    (reply / 0x1000000) as u8
+    reply.to_le_bytes()[3]
 }
 
 // The bytes of a word in the order sent or received.
 pub fn bytes_of(word: u32) -> [u8; 4] {
-    [
-        (word % 0x100) as u8,
-        (word / 0x100 % 0x100) as u8,
-        (word / 0x10000 % 0x100) as u8,
-        (word / 0x1000000 % 0x100) as u8,
-    ]
+    word.to_le_bytes()
 }

@@ -6,24 +6,19 @@
 #[derive(Clone, Copy, Debug, PartialEq, Eq)]
 pub enum SrcSelIo {
     // IO PLL output.
-    IoPll,
+    IoPll = 0,
     // IO PLL output, alternate encoding.
-    IoPllAlt,
+    IoPllAlt = 1,
     // ARM PLL output.
-    ArmPll,
+    ArmPll = 2,
     // DDR PLL output.
-    DdrPll,
+    DdrPll = 3,
 }
 
 impl SrcSelIo {
     // The code of the clock control register's field.
     pub fn raw_value(self) -> u32 {
-        match self {
-            SrcSelIo::IoPll => 0,
-            SrcSelIo::IoPllAlt => 1,
-            SrcSelIo::ArmPll => 2,
-            SrcSelIo::DdrPll => 3,
-        }
+        self as u32
     }
 }
 

@@ -5,7 +5,7 @@ use crate::zynq7000::bits;
 use crate::zynq7000::qspi::InstructionCode;
 use crate::zynq7000::qspi::LinearQspiConfig;
 
-// A read in linear mode. Where the address goes over several lines, mode bits follow it.
+// A read in linear mode.
 // requires { num_dummy_bytes < 8 }
 pub fn linear_read(
     instruction_code: InstructionCode,
