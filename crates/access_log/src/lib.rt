@@ -11,7 +11,7 @@ mod printer;
 mod reader;
 mod words;
 
-pub use printer::{Rendered, render, render_words};
+pub use printer::{ROOM, Rendered, render, render_words};
 pub use reader::{Found, LogReader, accesses, found_at};
 
 // A record that is no access (refusal 13), by its place.

@@ -9,7 +9,7 @@ use crate::words::{RECORDS, WORDS, words_in};
 use zynq7000::qspi::Access;
 
 // Room for the text of 512 records: 14 bytes a line, or up to 25 for the line that ends it.
-const ROOM: usize = 7200;
+pub const ROOM: usize = 7200;
 
 const LINE: usize = 14;
 
@@ -53,6 +53,7 @@ fn put_lines(log: &[u32], first: u64, out: &mut [u8]) -> Rendered
     ensures len { result.len ≡ length (text_of 512 (entry_at log.now) first 0) }
     ensures more { result.more ≡ all_accesses 512 (entry_at log.now) 0 }
 {
+    // Places, and no chunks of LINE bytes: the line of a refused record is longer than one.
     let mut reader = LogReader { log, at: 0 };
     for at in 0..RECORDS {
         match reader.next() {
@@ -148,7 +149,8 @@ fn line_with(kind: u8, offset: u8, value: u32) -> [u8; LINE]
     ]
 }
 
-// The last hex digit of a number, upper case.
+// The last hex digit of a number, upper case, by hand: std's `{:X}` wants a writer, and `char::from_digit` gives
+// lower case.
 fn digit(n: u8) -> u8
     ensures digit { result ≡ hex_digit (n % 16) }
 {

@@ -30,7 +30,7 @@ fn word_count(bytes: usize) -> usize
     if whole >= RECORDS {
         return WORDS;
     }
-    whole * 2 + (bytes % 8 + 7) / 8
+    whole * 2 + (bytes % 8).div_ceil(8)
 }
 
 // Puts the first words of a log of bytes at the front of `words`.
@@ -38,6 +38,7 @@ fn put_words(words: &mut [u32], bytes: &[u8], count: usize)
     requires { (count ≤ length words.old) × (count * 4 ≤ length bytes.now) }
     ensures words { (i : ℕ) → i < count → slice_index words.new i ≡ word_at bytes.now (i * 4) }
 {
+    // By place: the clause gives the word at each place, which a zip with chunks would have to be told back to.
     for i in 0..count {
         words[i] = word(bytes, i * 4);
     }

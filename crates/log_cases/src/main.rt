@@ -80,7 +80,7 @@ fn numbered(rt: &impl Print, first: u64) -> Result<()> {
 // The length of the text of a log of zeros, and whether the log may go on: a buffer is 512 records.
 fn measure(rt: &impl Print, len: usize) -> Result<()> {
     let log = [0u8; 4200];
-    let mut text = [0u8; 7200];
+    let mut text = [0u8; access_log::ROOM];
     let rendered = access_log::render(front(&log, len), 0, &mut text);
     let more = if rendered.more { " and more" } else { "" };
     println!(rt; "zeros {len}\n{}{more}", rendered.len)
@@ -120,7 +120,7 @@ fn leading(rt: &impl Print, first: u32) -> Result<()> {
 }
 
 fn show(rt: &impl Print, log: &[u8], first: u64) -> Result<()> {
-    let mut text = [0u8; 7200];
+    let mut text = [0u8; access_log::ROOM];
     let rendered = access_log::render(log, first, &mut text);
     writer(rt).write_all(&text[..rendered.len])
 }

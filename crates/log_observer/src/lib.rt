@@ -7,7 +7,7 @@ ghost use Rattle.std.specs.Prelude.{◌≡◌, ◌-◌};
 ghost use Rattle.log_observer.specs.Watching.{just_open, fresh, head_with, push, send_one, send_two, send_three, send_four, take_reply, is_program, is_status_read, is_clean, address_in, chunks_in, bytes_in, joined, commanded, raised, with_transfer, finish, closed, enabled, configured, wrote, has_read, watched, watch_of};
 
 use access_log::entry_at;
-use zedboard_bsp::qspi_spansion::{StatusRegister1, words};
+use zedboard_bsp::qspi_spansion::{RegisterId, StatusRegister1, words};
 use zynq7000::qspi::{Access, Config};
 use zynq7000::{bits, qspi};
 
@@ -118,14 +118,14 @@ fn take_reply(t: Option<Transfer>, reply: u32) -> Option<Transfer>
 fn is_program(t: Transfer) -> bool
     ensures program { result ≡ is_program t }
 {
-    4 < t.sent && t.head % 0x100 == 0x02
+    4 < t.sent && t.head % 0x100 == RegisterId::PageProgram as u32
 }
 
 // Whether the top byte of the reply is the status: 05 was sent first, and a byte after it.
 fn is_status_read(t: Transfer) -> bool
     ensures status { result ≡ is_status_read t }
 {
-    1 < t.sent && t.head % 0x100 == 0x05
+    1 < t.sent && t.head % 0x100 == RegisterId::ReadStatus1 as u32
 }
 
 // Whether it is a status transfer with error bit and bit 0 clear.
@@ -311,6 +311,7 @@ pub fn observe(log: &[u32], accesses: usize) -> Watch
     ensures watch { result ≡ watch_of log.now accesses }
 {
     let mut watch = start();
+    // By place, as the clause counts: a reader would keep the same place beside the count of the loop.
     for at in 0..accesses {
         match entry_at(log, at) {
             Some(Ok(access)) => watch = see(watch, access),

@@ -10,10 +10,8 @@ ghost use Rattle.log_printer.specs.Printed.{PrintsAll, PrintsLog, PrintsPart};
 
 use std::io::{Read, Result, Write, writer};
 
-// Room for 512 records, and for their text.
+// Room for 512 records.
 const ROOM: usize = 4096;
-
-const TEXT: usize = 7200;
 
 // How far a buffer was filled.
 #[derive(Drop)]
@@ -53,7 +51,7 @@ fn print_buffer<R: Read, W: Write>(input: &mut R, output: &mut W, number: u64) -
 {
     let mut bytes = [0u8; ROOM];
     let filled = fill(input, &mut bytes);
-    let mut text = [0u8; TEXT];
+    let mut text = [0u8; access_log::ROOM];
     let rendered = access_log::render(&bytes[..filled.len], number, &mut text);
     output.write_all(&text[..rendered.len])?;
     let more = filled.more?;
@@ -73,6 +71,7 @@ fn fill<R: Read>(input: &mut R, buf: &mut [u8]) -> Filled
         × Consumes (R.remaining input.old) (R.remaining input.new) (take result.len buf.new ++ rest)) }
 {
     let mut done = 0;
+    // No `for`: a turn goes on by as many bytes as its read brought.
     while done < buf.len() {
         match read_from(input, buf, done) {
             Ok(0) => {

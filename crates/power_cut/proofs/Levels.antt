@@ -10,9 +10,6 @@ use Rattle.zynq7000.proofs.BitLaws.{put_own, clear_own, put_other, clear_other}
 use Rattle.qspi_transfer.specs.LowLevel.{chip_select_high, chip_select_low, started}
 use Rattle.power_cut.specs.Controller.{high, manual}
 
-pub both_set : {a b : Bool} → a ≡ true → b ≡ true → (a && b) ≡ true
-both_set e f = rw (e, f)
-
 abbrev is_one : ℕ → Bool
 is_one n = eqb n 1
 

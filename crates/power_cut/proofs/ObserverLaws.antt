@@ -2,10 +2,11 @@
 -- finishes nothing. Assumes nothing.
 use Prim.Native.Nat.{ℕ, suc, ◌/◌, ◌%◌, ◌^◌}
 use mathlib.Core.Path.{◌≡◌, refl}
-use mathlib.Core.Bool.{Bool, true, false, not, ◌&&◌}
+use mathlib.Core.Bool.{Bool, true, false, not}
 use mathlib.Core.List.{List, [], ◌∷◌, ◌++◌}
 use native.Mathlib.Omega.{arith}
 use lib.Dec.{eqb}
+use Rattle.std.proofs.Math.Bool.{and-false}
 use borrow.Author.Tests.{eq-eqb, ne_eqb}
 use Rattle.zynq7000.specs.Bits.{is_set}
 use Rattle.zynq7000.specs.declared.qspi.Access.TheVariants.{Read, Write}
@@ -14,10 +15,6 @@ use Rattle.qspi_calls.specs.Chunks.{Chunk}
 use Rattle.power_cut.specs.Flash.{Command, write_enable, write_disable, status_read, clear_status, nothing, page_program, sector_erase, command_of, program_of, erase_of}
 use Rattle.power_cut.specs.Controller.{register_at, bytes_out, is_status_read}
 use Rattle.power_cut.specs.Observer.{Transfer, closed, opened, unread, Observed, named, raised, config_written, is_clean, closing, enable_written, seen_write, seen_read, see, sees, observed}
-
-and_false : (x : Bool) → (x && false) ≡ false
-and_false true = refl
-and_false false = refl
 
 -- ---- "error bit and bit 0 clear"
 
@@ -34,7 +31,7 @@ module _ (b : ℕ) (bs : List ℕ) (v : ℕ) where
   unfolding is_clean is_status_read
   busy_status z =
       let e : is_set 0 (top_byte v) ≡ true = eq-eqb (v / 2 ^ 24 % 256 / 2 ^ 0 % 2) 1 (omega (arith, z)) in
-      rw e (and_false (not (is_set 6 (top_byte v))))
+      rw e (and-false (not (is_set 6 (top_byte v))))
 
   pub error_status : v / 2 ^ 30 % 2 ≡ 1 → is_clean (opened (0x05 ∷ b ∷ bs) v) ≡ false
   unfolding is_clean is_status_read
@@ -49,7 +46,7 @@ pub unread_unclean : (sent : List ℕ) → is_clean (opened sent unread) ≡ fal
 unfolding is_clean is_status_read
 unread_unclean [] = refl
 unread_unclean (b ∷ []) = refl
-unread_unclean (b ∷ c ∷ bs) = and_false (is_status_read (b ∷ c ∷ bs))
+unread_unclean (b ∷ c ∷ bs) = and-false (is_status_read (b ∷ c ∷ bs))
 
 -- a status transfer without a reply leaves the chunks in doubt and the finished ones as they were
 pub nobody_read : (o : Observed) (v : ℕ) → see (see (see o (Write 0x14 1)) (Write 0x84 v)) (Write 0x14 0) ≡ record { transfer = closed; up = o.up; doubt = o.doubt; finished = o.finished }

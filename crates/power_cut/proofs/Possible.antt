@@ -32,7 +32,7 @@ use Rattle.power_cut.proofs.FlashLaws.{array_of}
 use Rattle.power_cut.proofs.Watch.{width, port_is, asked, asks_program}
 use Rattle.power_cut.proofs.Control.{Up}
 use Rattle.power_cut.proofs.OnDevice.{reply_each}
-use Rattle.power_cut.proofs.Levels.{both_set}
+use Rattle.std.specs.Cmp.Derive.{both_true}
 use Rattle.power_cut.proofs.Ways.{Leads, on, nowhere, silently, through, trace_append}
 use Rattle.power_cut.proofs.Rows.{all_bytes}
 
@@ -279,7 +279,7 @@ module _ (a : ℕ) (bs : List ℕ) {d : Device} (f : Finished a bs d) where
           rw (room-is room i) at c
 
 rested_up : {c : ℕ} → is_set 10 c ≡ true → is_set 14 c ≡ true → is_set 15 c ≡ true → is_set 16 c ≡ false → Up c
-rested_up u₁₀ u₁₄ u₁₅ u₁₆ = record { up = u₁₀; unstarted = u₁₆; by_hand = both_set u₁₄ u₁₅ }
+rested_up u₁₀ u₁₄ u₁₅ u₁₆ = record { up = u₁₀; unstarted = u₁₆; by_hand = both_true u₁₄ u₁₅ }
 
 -- THEOREM. Of every call.
 pub possible : (a : ℕ) (bs : List ℕ) → AllBytes bs → (old : Array) (before : Device) → Rests old before → Possible a bs before

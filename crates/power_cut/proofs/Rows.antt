@@ -25,7 +25,7 @@ use Rattle.power_cut.specs.Statement.{In, total, anding, Save, Each, row_log, At
 use Rattle.power_cut.specs.Row.{IsRun, Precedes, Row, empty, last, more}
 use Rattle.power_cut.proofs.Driver.{midway, action, transfer_of, succeeded, failed, refuses, outset, Driver, at, over, state_of, start_next, driver_start}
 use Rattle.power_cut.proofs.Fits.{AllFit, Good, good_driver}
-use Rattle.power_cut.proofs.Levels.{both_set}
+use Rattle.std.specs.Cmp.Derive.{both_true}
 use Rattle.power_cut.proofs.Watch.{view}
 use Rattle.power_cut.proofs.Lands.{applied, applied_anding}
 use Rattle.power_cut.proofs.Control.{Up}
@@ -307,7 +307,7 @@ cut_at : (row : List Save) → Going row → (k : ℕ) → k ≤ length (row_log
     → Kept row k old (observed (take k (row_log row))) new
 unfolding observed applied
 cut_at row g k i old new (rests {c} u₁₀ u₁₄ u₁₅ u₁₆) t z =
-    let u : Up c = record { up = u₁₀; unstarted = u₁₆; by_hand = both_set u₁₄ u₁₅ } in
+    let u : Up c = record { up = u₁₀; unstarted = u₁₆; by_hand = both_true u₁₄ u₁₅ } in
     let r = row_along old row g k i [] tt (resting u calm) t in
     record {
       chunks_are = rw (r.finished_is, r.doubt_is) r.chunks_are;

@@ -2,7 +2,7 @@
 use mathlib.Core.Path.{◌≡◌, refl, ap, ◌∙◌, sym}
 use mathlib.Core.Bool.{Bool, true, false, not, ◌&&◌, cond, true≢false}
 use mathlib.Core.List.{List, [], ◌∷◌, ◌++◌}
-use Prim.Native.Nat.{ℕ, zero, suc, ◌/◌, ◌%◌, ◌^◌, ◌≤◌}
+use Prim.Native.Nat.{ℕ, zero, suc, ◌≤◌}
 use native.Mathlib.Omega.{arith}
 use lib.ListN.{length}
 use Rattle.zynq7000.specs.Access.{value_word}
@@ -17,7 +17,7 @@ use Rattle.qspi_transfer.specs.Wire.{waits}
 use Rattle.qspi_operation.specs.Machine as machine
 use Rattle.qspi_operation.specs.Machine.{want_at, want, next, Matches, m_read, m_write}
 use Rattle.qspi_calls.proofs.Phases.{words}
-use Rattle.power_cut.specs.Flash.{sector_erase, command_of, erase_of, address_of}
+use Rattle.power_cut.specs.Flash.{sector_erase, command_of, erase_of}
 use Rattle.power_cut.specs.Controller.{tx, register_at, bytes_out, high, is_status_read}
 use Rattle.power_cut.specs.Observer.{Transfer, closed, opened}
 use Rattle.power_cut.specs.SectorObserver.{SectorsSeen, commanded, raised, config_written, is_clean, enable_written, seen_write, seen_read, see}
@@ -25,7 +25,7 @@ use Rattle.power_cut.specs.SectorObserver as observer
 use Rattle.power_cut.proofs.Driver.{Phase, draining, dropping, opening, lowering, switching, sending, starting, releasing, waiting, again, taking, closing, raising, leaving, midway, action, send_next, take_next, phase_after, taken_after, is_last, transfer_next}
 use Rattle.power_cut.proofs.Fits.{Split, Taken}
 use Rattle.power_cut.proofs.Levels.{high_put, high_clear}
-use Rattle.power_cut.proofs.Watch.{flat, flat_snoc, newest, newest_one, up_at, risen_at}
+use Rattle.power_cut.proofs.Watch.{flat, flat_snoc, address_back, newest, newest_one, up_at, risen_at}
 use Rattle.power_cut.proofs.SectorDriver.{Next, the_last, goes_on, next_of, Stage, enables, erases, polls, clears, disables, transfer_of, then_of, Driver, at, succeeded, failed, state_of, start_next, settled, stage_after, next_stage, Going, Good, good_stage, good_phase}
 
 abbrev pub showing : Transfer → Bool → List ℕ → List ℕ → SectorsSeen
@@ -142,9 +142,6 @@ asked s a = flat (width s) (words (transfer_of s a))
 erase_asked : (a : ℕ) → asked erases a ≡ 0xD8 ∷ address_bytes a
 unfolding bytes_out
 erase_asked a = command_bytes command.SectorErase a
-
-address_back : (a : ℕ) → a ≤ 16777215 → address_of (a / 2 ^ 16 % 256) (a / 2 ^ 8 % 256) (a % 256) ≡ a
-address_back a h = omega (arith, h)
 
 asks_erase : (a : ℕ) → a ≤ 16777215 → command_of (asked erases a) ≡ sector_erase a
 unfolding command_of erase_of

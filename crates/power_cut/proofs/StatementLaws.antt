@@ -5,6 +5,7 @@ use mathlib.Core.Option.{Option, none, some}
 use mathlib.Core.List.{List, [], ◌∷◌, ◌++◌, append-nil, append_assoc}
 use Prim.Native.Nat.{ℕ, zero, suc, ◌+◌, ◌-◌, ◌/◌, ◌%◌, ◌^◌, ◌≤◌, ◌<◌, min}
 use native.Mathlib.Omega.{arith}
+use Rattle.std.proofs.Math.Bool.{and-true, and_assoc}
 use lib.Bits.{bit_and, and_step}
 use lib.Dec.{eqb}
 use lib.ListN.{length, length-append}
@@ -56,23 +57,15 @@ all_leave i [] x = true
 all_leave i (c ∷ l) x = leaves i (brought c x) && all_leave i l x
 
 anded_bit : (i v : ℕ) (b : Option ℕ) → is_set i (anded v b) ≡ is_set i v && leaves i b
-anded_bit i v none = sym (go (is_set i v))
-  where
-    go : (b : Bool) → b && true ≡ b
-    go true = refl
-    go false = refl
+anded_bit i v none = sym (and-true (is_set i v))
 anded_bit i v (some b) = ap (λ (n : ℕ). eqb n 1) (and_bit i v b) ∙ both_ones (bit i v) (bit i b) (omega arith) (omega arith)
-
-and_of_three : (a b c : Bool) → (a && b) && c ≡ a && (b && c)
-and_of_three true b c = refl
-and_of_three false b c = refl
 
 -- THEOREM. A bit is set then precisely where it was set before and each finished chunk that brought a byte there brought it set: in whatever order they came.
 pub anding_bit : (i : ℕ) (l : List Chunk) (x v : ℕ) → is_set i (anding l x v) ≡ is_set i v && all_leave i l x
 unfolding anding
 anding_bit i [] x v = anded_bit i v none
 anding_bit i (c ∷ l) x v =
-    anding_bit i l x (anded v (brought c x)) ∙ ap (λ (b : Bool). b && all_leave i l x) (anded_bit i v (brought c x)) ∙ and_of_three (is_set i v) (leaves i (brought c x)) (all_leave i l x)
+    anding_bit i l x (anded v (brought c x)) ∙ ap (λ (b : Bool). b && all_leave i l x) (anded_bit i v (brought c x)) ∙ and_assoc (is_set i v) (leaves i (brought c x)) (all_leave i l x)
 
 -- what earlier chunks left is what later ones find
 pub anding_append : (k l : List Chunk) (x v : ℕ) → anding (k ++ l) x v ≡ anding l x (anding k x v)

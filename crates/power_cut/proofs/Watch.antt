@@ -64,7 +64,7 @@ asked s c = flat (width s) (words (transfer_of s c))
 program_asked : (c : Chunk) → Fit c → asked programs c ≡ 0x02 ∷ address_bytes c.address ++ c.bytes
 program_asked c f = flat_four (words (transfer_of programs c)) ∙ program_bytes c.address c.bytes f.sound.octets f.fours
 
-address_back : (a : ℕ) → a ≤ 16777215 → address_of (a / 2 ^ 16 % 256) (a / 2 ^ 8 % 256) (a % 256) ≡ a
+pub address_back : (a : ℕ) → a ≤ 16777215 → address_of (a / 2 ^ 16 % 256) (a / 2 ^ 8 % 256) (a % 256) ≡ a
 address_back a h = omega (arith, h)
 
 program_named : (a : ℕ) (bs : List ℕ) → 0 < length bs → a ≤ 16777215 → program_of (address_bytes a ++ bs) ≡ page_program (record { address = a; bytes = bs })

@@ -1,13 +1,14 @@
 -- At every rising chip select of every run no word waits or is going out: each transfer of each call that sends takes a reply for each of its
 -- words, and a reply comes only with a word that is out. Kept by every access and by everything silent. Assumes nothing.
 use mathlib.Core.Path.{◌≡◌, refl, ap, subst, ◌∙◌, sym}
-use mathlib.Core.Bool.{Bool, true, false, ◌&&◌, ◌||◌}
+use mathlib.Core.Bool.{Bool, true, false, ◌||◌}
 use mathlib.Core.Logic.{◌⊎◌, inl, inr}
 use mathlib.Core.List.{List, [], ◌∷◌, ◌++◌, reverse}
 use Prim.Native.Nat.{ℕ, zero, suc, ◌+◌, ◌%◌, min}
 use native.Mathlib.Omega.{arith}
 use lib.Dec.{ltb, eqb}
 use lib.ListN.{length, take}
+use Rattle.std.proofs.lemmas.Bool.{and_parts}
 use borrow.Author.Tests.{eqb-true}
 use Rattle.zynq7000.specs.Access.{value_word}
 use Rattle.zynq7000.specs.Bits.{is_set}
@@ -28,13 +29,14 @@ use Rattle.qspi_calls.specs.Calls as call
 use Rattle.qspi_calls.proofs.Phases.{words}
 use Rattle.qspi_calls.proofs.Registers.{Call}
 use Rattle.zynq7000_hal.specs.declared.qspi.ClockConfig.{ClockConfig}
+use Rattle.qspi_calls.proofs.ReadCalls.{length_zeros}
 use Rattle.qspi_calls.proofs.ProgramWords.{length_words}
 use Rattle.power_cut.specs.Flash.{Array, Flash}
 use Rattle.power_cut.specs.Controller.{tx, register_at, Device, device, Silent, out, unasked, idle, after_write, effect, Gives, Trace, still, quiet, step, raises, words_left, AllOut, Rests, rests}
 use Rattle.power_cut.specs.WordsOut.{Sends, write_enable, write_disable, clear_status, read_status, read_config, read_id, read_long_id, write_status, write_registers, new, set_write_protection, erase_sector, erase_sectors, program, write_pages_call, read, AtRest, at_rest, RowOf, last, more, WordsOut}
 use Rattle.power_cut.proofs.Driver.{Phase, draining, midway, action, in_transfer_of, transfer_next_of}
 use Rattle.power_cut.proofs.SectorDriver.{Next, the_last, goes_on, next_of}
-use Rattle.power_cut.proofs.Levels.{both_set}
+use Rattle.std.specs.Cmp.Derive.{both_true}
 use Rattle.power_cut.proofs.Control.{Up, Held, held, c_drain, c_leave, clash, accessed, none_at_rise, goes_out, by_hand}
 use Rattle.power_cut.proofs.Theorem.{follows_take}
 
@@ -73,16 +75,11 @@ data Stands : State → Device → Type 0 where
       → (y : ReplyEach x) → ((rs : List ℕ) → Replied (k rs)) → Held Any y.width x p taken f d → Stands (in_transfer_of x p taken brings k bs n) d
   over : {a : Status} {vs bs : List ℕ} {n : ℕ} {d : Device} → AtRest d → Stands (ended a vs bs n) d
 
-both_of : (a b : Bool) → a && b ≡ true → (a ≡ true) × (b ≡ true)
-both_of true true e = (refl, refl)
-both_of true false e = clash e refl
-both_of false b e = clash e refl
-
 rested : {c : ℕ} {w r : List ℕ} {f : Flash} → Up c → AtRest (device c [] [] w r f)
-rested {c} u = let y = both_of (is_set 14 c) (is_set 15 c) u.by_hand in at_rest u.up y.0 y.1 u.unstarted
+rested {c} u = let y = and_parts (is_set 14 c) (is_set 15 c) u.by_hand in at_rest u.up y.0 y.1 u.unstarted
 
 opens : {x : Transfer} {brings : List ℕ → List ℕ} {k : List ℕ → Script} {bs : List ℕ} {n : ℕ} {d : Device} → ReplyEach x → ((rs : List ℕ) → Replied (k rs)) → AtRest d → Stands (in_transfer_of x draining [] brings k bs n) d
-opens y q (at_rest b₁₀ b₁₄ b₁₅ b₁₆) = during y q (held (c_drain (record { up = b₁₀; unstarted = b₁₆; by_hand = both_set b₁₄ b₁₅ })))
+opens y q (at_rest b₁₀ b₁₄ b₁₅ b₁₆) = during y q (held (c_drain (record { up = b₁₀; unstarted = b₁₆; by_hand = both_true b₁₄ b₁₅ })))
 
 begins : {s : Script} {d : Device} → Replied s → AtRest d → (bs : List ℕ) (n : ℕ) → Stands (begin s bs n) d
 begins at_end h bs n = over h
@@ -95,7 +92,7 @@ silent : {s : State} {d e : Device} → Stands s d → Silent d e → Stands s e
 silent (during {x = x} {f = f} y q (held k)) (out v h) = during y q (held (goes_out Any y.width x f (λ c n v b t w r e l z. tt) k h))
 silent (during {x = x} {f = f} y q (held k)) (unasked h) = clash (by_hand Any y.width x f k) h
 silent (during y q (held k)) (idle h) = during y q (held k)
-silent (over (at_rest b₁₀ b₁₄ b₁₅ b₁₆)) (unasked h) = clash (both_set b₁₄ b₁₅) h
+silent (over (at_rest b₁₀ b₁₄ b₁₅ b₁₆)) (unasked h) = clash (both_true b₁₄ b₁₅) h
 silent (over (at_rest b₁₀ b₁₄ b₁₅ b₁₆)) (idle h) = over (at_rest b₁₀ b₁₄ b₁₅ b₁₆)
 
 -- an access
@@ -163,10 +160,6 @@ module _ {Call : Script → Type 0} (h : (s : Script) → Call s → Replied s) 
 -- of one word and one reply
 short_each : (port word width : ℕ) → register_at port ≡ tx width → ReplyEach (call.short port word)
 short_each port word width e = record { width = width; port_is = e; each = refl }
-
-length_zeros : (n : ℕ) → length (call.zeros n) ≡ n
-length_zeros zero = refl
-length_zeros (suc n) = ap suc (length_zeros n)
 
 reading_each : (fast dummy : Bool) (a n : ℕ) → ReplyEach (call.reading fast dummy a n)
 unfolding register_at

@@ -38,7 +38,7 @@ pub fn write_pages(addr: u32, data: &[u8], replies: &[u32], log: &mut [u32]) -> 
 }
 
 // How it ended, the used counts, the sectors that ended clean, and the place of the entry that the list was
-// refused for: 0 where it was refused for none.
+// refused for: 0 and no `None` where it was refused for none, as clause `place` says.
 #[derive(Clone, Copy)]
 pub struct SectorsRan {
     pub ran: Ran,

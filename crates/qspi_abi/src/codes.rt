@@ -1,4 +1,6 @@
-// Codes of the boundary: what they stand for, and a code that is wider than its field or not listed.
+// Codes of the boundary: what they stand for, and a code that is wider than its field or not listed. They are read
+// by functions and no `TryFrom<u8>`: that would belong to zynq7000, whose types they are, and it lies below the
+// crates of both refusals.
 ghost use Rattle.std.specs.Prelude.{◌≡◌, get_or};
 ghost use Rattle.zynq7000_hal.specs.Clocks.{baud_values};
 ghost use Rattle.qspi_abi.specs.Codes.{source_at, divisor_within, config_at, instruction_at, vendor_of, code_number};

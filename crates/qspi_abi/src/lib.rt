@@ -1,7 +1,8 @@
 // The driver's calls with numbers and slices in, a struct of numbers out: what `qspi_abi_c` exports to C and
 // Rust. `include/qspi.h` declares these functions and says what the numbers are. Each runs one call from
 // its start to its end over the replies and the log lent; any input gets an answer. The structs are C's: an
-// answer's number stands beside its values, which are 0 where it has none, and an id's codes are numbers.
+// answer's number stands beside its values, which are 0 where it has none, and an id's codes are numbers. So are
+// the parameters: a flag stands beside the value that it is about.
 #![tactic(auto)]
 
 ghost use Rattle.std.specs.Prelude.{◌≡◌, true, false, ℕ, ◌/◌, length, List, [], Ok};

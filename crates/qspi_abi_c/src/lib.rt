@@ -1,7 +1,7 @@
 // The exports of the static library, for programs in C and Rust: numbers and slices in, a struct of numbers
 // out. `include/qspi.h` declares them and says what the numbers are. Each calls the function of its name in
-// `qspi_abi` and promises the same. Names, numbers and flags are C's, and stay as the header declares them: no enum, Option
-// or Result crosses this boundary.
+// `qspi_abi` and promises the same. Names, numbers and flags are C's, and stay as the header declares them:
+// no enum, Option or Result crosses this boundary.
 #![tactic(auto)]
 
 ghost use Rattle.std.specs.Prelude.{◌≡◌, true, false, ◌/◌, length};

@@ -1,6 +1,7 @@
 -- What the loops over a list of sectors keep. Assumes nothing.
 use mathlib.Core.Path.{◌≡◌, refl, ap, ◌∙◌, sym, subst}
 use Rattle.std.proofs.Common.{min, ltb-true, ltb-false}
+use Rattle.std.proofs.Math.Bool.{or-true}
 use Rattle.std.proofs.Math.Nat.{min-le_left, min-le_right, min-eq_left, min-eq_right}
 use Rattle.std.proofs.lemmas.List.{length-take-le, get_or-take}
 use mathlib.Core.Bool.{Bool, true, false, cond, ◌||◌}
@@ -17,29 +18,13 @@ use Rattle.qspi_calls.specs.Sectors.{sector_status, first_refused, among, first_
 
 -- ---- the first place that meets rule 1 or 2
 
--- so many places are passed
-abbrev pub Passed : List ℕ → ℕ → Type 0
-Passed l at = first_refused l ≡ at + first_refused (drop at l)
+pub refused_here : (a : ℕ) (l : List ℕ) → is_going (sector_status a) ≡ false → first_refused (a ∷ l) ≡ 0
+refused_here a l e = ap (λ (b : Bool). cond b (suc (first_refused l)) 0) e
 
-module _ (l : List ℕ) (at : ℕ) (h : at < length l) where
-  refused_at_lem : first_refused (drop at l) ≡ cond (is_going (sector_status (get_or l at 0))) (suc (first_refused (drop (suc at) l))) 0
-  refused_at_lem = ap first_refused (drop-cons l at 0 h)
-
-  pub passes : is_going (sector_status (get_or l at 0)) ≡ true → Passed l at → Passed l (at + 1)
-  passes e p =
-      let n : first_refused (drop at l) ≡ suc (first_refused (drop (suc at) l)) = refused_at_lem ∙ ap (λ (b : Bool). cond b (suc (first_refused (drop (suc at) l))) 0) e in
-      let k : at + 1 ≡ suc at = omega arith in
-      rw k (omega (arith, p, n))
-
-  pub stays_at : is_going (sector_status (get_or l at 0)) ≡ false → Passed l at → at ≡ first_refused l
-  stays_at e p =
-      let n : first_refused (drop at l) ≡ 0 = refused_at_lem ∙ ap (λ (b : Bool). cond b (suc (first_refused (drop (suc at) l))) 0) e in
-      omega (arith, p, n)
-
-pub passed_all : (l : List ℕ) (at : ℕ) → length l ≤ at → Passed l at → at ≡ first_refused l
-passed_all l at h p =
-    let n : first_refused (drop at l) ≡ 0 = ap first_refused (drop_of_length-le l {i = at} h) in
-    omega (arith, p, n)
+pub refused_later : (a : ℕ) (l : List ℕ) → is_going (sector_status a) ≡ true → first_refused (a ∷ l) ≡ first_refused l + 1
+refused_later a l e =
+    let n : first_refused (a ∷ l) ≡ suc (first_refused l) = ap (λ (b : Bool). cond b (suc (first_refused l)) 0) e in
+    omega (arith, n)
 
 -- ---- whether a sector is among the first so many
 
@@ -59,15 +44,11 @@ module _ (l : List ℕ) (a at : ℕ) (h : at < length l) where
   among_next : among a (take (suc at) l) ≡ among a (take at l) || eqb (get_or l at 0) a
   among_next = ap (among a) (take-suc l at 0 h) ∙ among_last a (take at l) (get_or l at 0)
 
-or_true : (x : Bool) → x || true ≡ true
-or_true true = refl
-or_true false = refl
-
 -- found, it stays found
 pub found : (l : List ℕ) (a at k : ℕ) → at + suc k ≤ length l → get_or l at 0 ≡ a → among a (take (at + suc k) l) ≡ true
 found l a at zero h e =
     let z : at + 1 ≡ suc at = omega arith in
-    rw z (among_next l a at (omega arith) ∙ ap (λ (x : Bool). among a (take at l) || x) (eq-eqb (get_or l at 0) a e) ∙ or_true (among a (take at l)))
+    rw z (among_next l a at (omega arith) ∙ ap (λ (x : Bool). among a (take at l) || x) (eq-eqb (get_or l at 0) a e) ∙ or-true (among a (take at l)))
 found l a at (suc k) h e =
     let z : at + suc (suc k) ≡ suc (at + suc k) = omega arith in
     rw z (among_next l a (at + suc k) (omega arith) ∙ ap (λ (x : Bool). x || eqb (get_or l (at + suc k) 0) a) (found l a at k (omega arith) e))

@@ -9,7 +9,8 @@ use Prim.Native.Nat.{ℕ, zero, suc, ◌+◌, ◌%◌, ◌≤◌, ◌<◌}
 use native.Mathlib.Omega.{arith}
 use lib.Dec.{ltb, eqb}
 use lib.ListN.{length}
-use borrow.Author.Tests.{ltb-true, ltb-false, lt-ltb, le-ltb, eq-eqb, ne_eqb, eqb-true, eqb-false}
+use Rattle.std.proofs.lemmas.Bool.Decides.{Decides-ltb, Decides-eqb}
+use borrow.Author.Tests.{ltb-true, ltb-false, lt-ltb, le-ltb, ne_eqb, eqb-false}
 use Rattle.zynq7000.specs.Bits.{is_set}
 use Rattle.zynq7000_hal.specs.declared.qspi.ClockConfig.{ClockConfig}
 use Rattle.zedboard_bsp.specs.Registers.{protected, update_needed}
@@ -107,14 +108,8 @@ calls_own disable = with_perform (λ rs. with_end refl)
 abbrev other : Status → Status → Bool
 other a b = not (eqb (number_of b) (number_of a))
 
-below : (a b : ℕ) → (ltb a b ≡ true) ↔ (a < b)
-below a b = (ltb-true a b, lt-ltb a b)
-
 not_below : (a b : ℕ) → (ltb a b ≡ false) ↔ (b ≤ a)
 not_below a b = (ltb-false a b, le-ltb a b)
-
-equal : (a b : ℕ) → (eqb a b ≡ true) ↔ (a ≡ b)
-equal a b = (eqb-true a b, eq-eqb a b)
 
 unequal : (a b : ℕ) → (eqb a b ≡ false) ↔ (a ≡ b → ⊥)
 unequal a b = (eqb-false a b, ne_eqb a b)
@@ -191,7 +186,7 @@ module _ (room : ℕ) (replies : List ℕ) where
   -- 1: "addr + 65,536, .. above 16,777,215; the sum taken in full"
   pub erase_one : (a : ℕ) → Answers (call.erase_sector a) OutOfRange ↔ (16777215 < a + 65536)
   erase_one a =
-      Iff.trans (applies (ltb 16777215 (a + 65536)) OutOfRange _ (never OutOfRange (with_either (eqb (a % 65536) 0) (with_working 5 _ (erasing a) refl (with_end refl)) (with_end refl)) refl refl refl)) (below 16777215 (a + 65536))
+      Iff.trans (applies (ltb 16777215 (a + 65536)) OutOfRange _ (never OutOfRange (with_either (eqb (a % 65536) 0) (with_working 5 _ (erasing a) refl (with_end refl)) (with_end refl)) refl refl refl)) (Decides-ltb 16777215 (a + 65536))
 
   -- 2: "addr not a multiple of 65,536", and 1 does not apply
   pub erase_two : (a : ℕ) → Answers (call.erase_sector a) Alignment ↔ ((a + 65536 ≤ 16777215) × (a % 65536 ≡ 0 → ⊥))
@@ -234,7 +229,7 @@ module _ (room : ℕ) (replies : List ℕ) where
     past_three Q n = Iff.trans (past Q (ltb 240 (length bs)) DataTooLarge aligned n) (Iff.and (not_below 240 (length bs)) Iff.rfl)
 
     past_four : (Q : Result → Type 0) → (Q (called (refused NotAligned) room replies) → ⊥) → Q (called aligned room replies) ↔ ((length bs % 4 ≡ 0) × Q (called paged room replies))
-    past_four Q n = Iff.trans (past_not Q (eqb (length bs % 4) 0) NotAligned paged n) (Iff.and (equal (length bs % 4) 0) Iff.rfl)
+    past_four Q n = Iff.trans (past_not Q (eqb (length bs % 4) 0) NotAligned paged n) (Iff.and (Decides-eqb (length bs % 4) 0) Iff.rfl)
 
     past_five : (Q : Result → Type 0) → (Q (called (refused CrossesPageBoundary) room replies) → ⊥) → Q (called paged room replies) ↔ ((a % 256 + length bs ≤ 256) × Q (called work room replies))
     past_five Q n = Iff.trans (past Q (ltb 256 (a % 256 + length bs)) CrossesPageBoundary work n) (Iff.and (not_below 256 (a % 256 + length bs)) Iff.rfl)
@@ -247,13 +242,13 @@ module _ (room : ℕ) (replies : List ℕ) where
 
     -- 1: "addr + length, above 16,777,215; the sum taken in full"
     pub program_one : Answers (call.program a bs) OutOfRange ↔ (16777215 < a + length bs)
-    program_one = Iff.trans (applies (ltb 16777215 (a + length bs)) OutOfRange small (never OutOfRange (with_small (other OutOfRange) refl refl refl refl refl) refl refl refl)) (below 16777215 (a + length bs))
+    program_one = Iff.trans (applies (ltb 16777215 (a + length bs)) OutOfRange small (never OutOfRange (with_small (other OutOfRange) refl refl refl refl refl) refl refl refl)) (Decides-ltb 16777215 (a + length bs))
 
     -- 3: "over 240 bytes", and 1 does not apply
     pub program_three : Answers (call.program a bs) DataTooLarge ↔ ((a + length bs ≤ 16777215) × (240 < length bs))
     program_three =
         Iff.trans (past_one (λ r. r.answer ≡ DataTooLarge) (refuses_not OutOfRange DataTooLarge refl refl))
-        (Iff.and Iff.rfl (Iff.trans (applies (ltb 240 (length bs)) DataTooLarge aligned (never DataTooLarge (with_aligned (other DataTooLarge) refl refl refl refl) refl refl refl)) (below 240 (length bs))))
+        (Iff.and Iff.rfl (Iff.trans (applies (ltb 240 (length bs)) DataTooLarge aligned (never DataTooLarge (with_aligned (other DataTooLarge) refl refl refl refl) refl refl refl)) (Decides-ltb 240 (length bs))))
 
     -- 4: "length not a multiple of 4", and neither 1 nor 3 applies
     pub program_four : Answers (call.program a bs) NotAligned ↔ ((a + length bs ≤ 16777215) × ((length bs ≤ 240) × (length bs % 4 ≡ 0 → ⊥)))
@@ -268,7 +263,7 @@ module _ (room : ℕ) (replies : List ℕ) where
         Iff.trans (past_one (λ r. r.answer ≡ CrossesPageBoundary) (refuses_not OutOfRange CrossesPageBoundary refl refl))
         (Iff.and Iff.rfl (Iff.trans (past_three (λ r. r.answer ≡ CrossesPageBoundary) (refuses_not DataTooLarge CrossesPageBoundary refl refl))
         (Iff.and Iff.rfl (Iff.trans (past_four (λ r. r.answer ≡ CrossesPageBoundary) (refuses_not NotAligned CrossesPageBoundary refl refl))
-        (Iff.and Iff.rfl (Iff.trans (applies (ltb 256 (a % 256 + length bs)) CrossesPageBoundary work (never CrossesPageBoundary (with_work (other CrossesPageBoundary) refl refl) refl refl refl)) (below 256 (a % 256 + length bs))))))))
+        (Iff.and Iff.rfl (Iff.trans (applies (ltb 256 (a % 256 + length bs)) CrossesPageBoundary work (never CrossesPageBoundary (with_work (other CrossesPageBoundary) refl refl) refl refl refl)) (Decides-ltb 256 (a % 256 + length bs))))))))
 
   -- ---- write_pages, the reads, and values wider than their field
 
@@ -282,7 +277,7 @@ module _ (room : ℕ) (replies : List ℕ) where
 
   -- 10: "addr + length above 4,294,967,296", of READ and of FAST READ, with and without the dummy byte
   pub read_ten : (fast dummy : Bool) (a n : ℕ) → Answers (call.read fast dummy a n) AddressSpan ↔ (4294967296 < a + n)
-  read_ten fast dummy a n = Iff.trans (applies (ltb 4294967296 (a + n)) AddressSpan _ (never AddressSpan (with_reads refl n fast dummy a n) refl refl refl)) (below 4294967296 (a + n))
+  read_ten fast dummy a n = Iff.trans (applies (ltb 4294967296 (a + n)) AddressSpan _ (never AddressSpan (with_reads refl n fast dummy a n) refl refl refl)) (Decides-ltb 4294967296 (a + n))
 
   -- 12: "latency above 3", where one is asked for
   pub new_twelve : (c : Config) → Answers (call.new_call c) FieldTooWide ↔ ((v : ℕ) × ((c.latency_config ≡ Some v) × (3 < v)))
@@ -299,12 +294,12 @@ module _ (room : ℕ) (replies : List ℕ) where
 
   -- 12: "protection above 7"
   pub protection_twelve : (q : ℕ) → Answers (call.set_write_protection q) FieldTooWide ↔ (7 < q)
-  protection_twelve q = Iff.trans (applies (ltb 7 q) FieldTooWide _ (never FieldTooWide (with_protecting refl q) refl refl refl)) (below 7 q)
+  protection_twelve q = Iff.trans (applies (ltb 7 q) FieldTooWide _ (never FieldTooWide (with_protecting refl q) refl refl refl)) (Decides-ltb 7 q)
 
   -- 12: "clock divisor above 63"
   pub initialize_twelve : (c : ClockConfig) (phase polarity : Bool) → Answers (call.initialize c phase polarity) FieldTooWide ↔ (63 < c.ref_clk_div)
   initialize_twelve c phase polarity =
-      Iff.trans (applies (ltb 63 c.ref_clk_div) FieldTooWide _ (never FieldTooWide (with_perform (λ rs. with_end refl)) refl refl refl)) (below 63 c.ref_clk_div)
+      Iff.trans (applies (ltb 63 c.ref_clk_div) FieldTooWide _ (never FieldTooWide (with_perform (λ rs. with_end refl)) refl refl refl)) (Decides-ltb 63 c.ref_clk_div)
 
   -- ---- 23 and 24 of every call
 

@@ -1,9 +1,10 @@
 -- What a whole call hands back, out of what its start and its run promise. Assumes nothing.
 use mathlib.Core.Path.{◌≡◌, refl, ap, subst, ◌∙◌, sym}
 use mathlib.Core.Bool.{Bool, true, false}
-use mathlib.Core.List.{List, [], ◌∷◌, ◌++◌}
+use mathlib.Core.List.{List, [], ◌++◌}
 use Prim.Native.Nat.{ℕ, ◌+◌, ◌-◌, ◌*◌, ◌/◌}
 use native.Mathlib.Omega.{arith}
+use Rattle.std.proofs.lemmas.List.{nil_from_length}
 use lib.ListN.{length, drop}
 use lib.Seq.{sets, sets-eq}
 use Rattle.zynq7000.specs.Access.{encode}
@@ -23,15 +24,11 @@ use Rattle.qspi_calls.specs.Promise.{logged_of, buffered_of, Called}
 
 -- ---- for `run::command`
 
-empty : (l : List ℕ) → length l ≡ 0 → l ≡ []
-empty [] e = refl
-empty (x ∷ l) e = absurd (omega arith)
-
 -- what a run promises that is lent no data and no buffer
 pub commanded : (o : Op) (rs log : List ℕ) {s : Stepped} {buffer₁ log₁ : List ℕ} → by-counters.Ran s buffer₁ log₁ (run_of o [] rs [] log) × RunFollows o [] [] log rs s buffer₁ log₁
     → RunFollows o [] [] log rs s [] log₁ × (s.op.job ≡ o.job)
 commanded o rs log {s} {buffer₁} {log₁} h =
-    let e : buffer₁ ≡ [] = empty buffer₁ (ap length h.0.stored ∙ run_wide o [] rs [] log) in
+    let e : buffer₁ ≡ [] = nil_from_length buffer₁ (ap length h.0.stored ∙ run_wide o [] rs [] log) in
     (subst (λ (z : List ℕ). RunFollows o [] [] log rs s z log₁) e h.1, ap (λ (z : Op). z.job) h.0.op ∙ run_job o [] rs [] log)
 
 -- ---- a whole call

@@ -37,7 +37,7 @@ use Rattle.qspi_calls.proofs.Scripted.{some_want}
 use Rattle.qspi_calls.proofs.Short.{ended_at_start}
 use Rattle.qspi_calls.proofs.ReadBytes.{length_all, more_bytes, one_reply}
 
-length_zeros : (n : ℕ) → length (zeros n) ≡ n
+pub length_zeros : (n : ℕ) → length (zeros n) ≡ n
 length_zeros zero = refl
 length_zeros (suc n) = ap suc (length_zeros n)
 

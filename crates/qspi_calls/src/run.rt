@@ -38,7 +38,7 @@ fn has_values(status: Status) -> bool
     )
 }
 
-// A reply, where the answer has values: what its value is made of. 0 where it has none, since C is handed a word.
+// A reply, where the answer has values: what its value is made of. 0 where it has none, as the clause says.
 pub fn kept(answer: Status, reply: u32) -> u32
     ensures kept { result ≡ kept_of answer reply }
 {

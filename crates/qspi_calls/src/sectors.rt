@@ -8,7 +8,8 @@ ghost use Rattle.qspi_calls.specs.Sectors.{sector_status, first_refused, among, 
 use qspi_script::Status;
 use zedboard_bsp::qspi_spansion::{LONGEST_LIST, SECTOR_SIZE, limits};
 
-// What a sector is refused for: rule 1, then rule 2. One that meets neither goes on.
+// What a sector is refused for: rule 1, then rule 2. One that meets neither goes on: `Going` and no `Option`, as
+// clause `status` says, and as the starts hand it on for one sector.
 pub fn sector_status(addr: u32) -> Status
     ensures status { result ≡ sector_status addr }
 {
@@ -26,12 +27,8 @@ pub fn first_refused(list: &[u32]) -> Option<usize>
     ensures place { unwrap_or result (length list.now) ≡ first_refused list.now }
     ensures within { IfSome result (λ at. at < length list.now) }
 {
-    for (at, &addr) in list.iter().enumerate() {
-        if !qspi_operation::is_going(sector_status(addr)) {
-            return Some(at);
-        }
-    }
-    None
+    list.iter()
+        .position(|&addr| !qspi_operation::is_going(sector_status(addr)))
 }
 
 fn is_among(earlier: &[u32], addr: u32) -> bool
@@ -53,12 +50,12 @@ pub fn first_repeat(list: &[u32]) -> Option<usize>
     None
 }
 
-// The list as an operation is lent it, a byte a sector: its number. A call that is not refused names no
-// sector behind these.
-pub fn numbered(list: &[u32]) -> [u8; 256]
+// The list as an operation is lent it, a byte a sector: its number. There is no heap on the board, so there is
+// room for the longest. A call that is not refused names no sector behind these.
+pub fn numbered(list: &[u32]) -> [u8; LONGEST_LIST]
     ensures numbers { result ≡ numbers_in longest_list list.now }
 {
-    let mut numbers = [0u8; 256];
+    let mut numbers = [0u8; LONGEST_LIST];
     let count = list.len().min(LONGEST_LIST);
     for (at, &addr) in list[..count].iter().enumerate() {
         numbers[at] = limits::sector_number(addr);

@@ -1,7 +1,7 @@
 // How the calls start: the input is tested, and the operation is refused, ended, or going on. Names are
 // the Rust's, of `QspiLowLevel` and `QspiSpansionS25Fl256SIoMode`. `log`, `data` and `buffer` are the
-// lengths of the memory that the steps will be lent. They and what is asked for are plain numbers, as calls from
-// C bring them.
+// lengths of the memory that the steps will be lent. They and what is asked for are plain numbers, as in the
+// Rust's calls.
 ghost use Rattle.std.specs.Prelude.{◌≡◌, true, false, is_some};
 ghost use Rattle.qspi_calls.specs.Starts as spec;
 ghost use Rattle.qspi_calls.specs.Calls as call;
@@ -230,7 +230,7 @@ fn updating(after_clear: Stage, purpose: Purpose, wanted: Wanted, log: usize) ->
     }
 }
 
-// Whether `new` reads the registers at all.
+// Where `new` begins: at the registers, or at the end where it reads none.
 fn may_update(wanted: Wanted) -> Stage
     ensures stage { result ≡ spec.may_update wanted.quad (is_some wanted.latency) wanted.clear }
 {
@@ -253,7 +253,7 @@ pub fn new(config: Config, log: usize) -> Op
         ..NOTHING_WANTED
     };
     let job = updating(may_update(wanted), Purpose::Configure, wanted, log);
-    if 3 < latency.unwrap_or(0) {
+    if latency.is_some_and(|code| 3 < code) {
         over(job, Status::FieldTooWide)
     } else {
         going(job, at(Stage::Clear))

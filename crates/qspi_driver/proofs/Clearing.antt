@@ -37,7 +37,8 @@ use Rattle.qspi_driver.specs.declared.state.State.{State}
 use Rattle.qspi_driver.specs.declared.state.SectorList.{SectorList}
 use Rattle.qspi_driver.specs.declared.state.ListActed.{ListActed}
 use Rattle.qspi_driver.specs.State.{Answer}
-use Rattle.qspi_driver.proofs.SectorLists.{list_erases, lent_copy, step_job}
+use Rattle.qspi_driver.proofs.SectorLists.{list_erases, lent_copy}
+use Rattle.qspi_operation.proofs.Runs.{step_job}
 
 -- ---- the list at hand
 

@@ -1,5 +1,5 @@
 -- What an operation is lent: of a list of sectors the driver's copy, and through all its steps the same. Assumes nothing.
-use Rattle.std.specs.Prelude.{Option, Some, None}
+use Rattle.std.specs.Prelude.{Option}
 use Prim.Native.Nat.{ℕ, ◌+◌, ◌<◌, ◌≤◌}
 use mathlib.Core.Path.{◌≡◌, refl, ap, ◌∙◌}
 use mathlib.Core.Bool.{Bool, true, false}
@@ -7,13 +7,8 @@ use mathlib.Core.List.{List, [], ◌∷◌}
 use native.Mathlib.Omega.{arith}
 use lib.Dec.{ltb}
 use lib.ListN.{length, get_or, take}
-use Rattle.qspi_script.specs.Stages.{frame_of}
-use Rattle.qspi_transfer.specs.Wire.{wire_next}
-use Rattle.qspi_transfer.specs.declared.Wire.{Wire}
 use Rattle.qspi_script.specs.declared.Job.{Job}
 use Rattle.qspi_operation.specs.declared.Op.{Op}
-use Rattle.qspi_operation.specs.Step.{Verdict}
-use Rattle.qspi_operation.specs.Step.{Ended, Changed, Full, Dry, Made}
 use Rattle.zedboard_bsp.specs.Limits.{last_end, longest_list}
 use Rattle.qspi_script.specs.declared.Turned.{Turned}
 use Rattle.qspi_script.specs.declared.Stage.TheVariants.{Enable}
@@ -23,8 +18,9 @@ use Rattle.qspi_script.specs.declared.Gives.TheVariants as gives
 use Rattle.qspi_calls.specs.Sectors.{sector_status, first_refused, first_repeat}
 use Rattle.qspi_calls.specs.Starts as start
 use Rattle.qspi_calls.specs.Starts.{pick, over, opened, paging_job, place_at, write_pages_of}
-use Rattle.qspi_operation.specs.Step.{step_of, verdict_of, act, moved_by, counted}
+use Rattle.qspi_operation.specs.Step.{step_of}
 use Rattle.qspi_operation.specs.Step.{erases_list}
+use Rattle.qspi_operation.proofs.Runs.{step_job}
 use Rattle.qspi_driver.specs.State.{list_job, list_op, own_copy, lent_if, lent_to}
 
 -- an operation that erases no list is lent the caller's data
@@ -63,25 +59,11 @@ pub lent_list : (list : List ℕ) (log : ℕ) (numbers : List ℕ) → lent_to (
 lent_list list log numbers = ap (λ (b : Bool). lent_if b (list_op list log).job.lent.«data» numbers []) (list_erases list log)
 
 -- a step keeps the job, and so what is lent
-job_by : (m : Option Wire) (o : Op) (used replies : ℕ) → (moved_by m o used replies).op.job ≡ o.job
-job_by (Some w) o used replies = refl
-job_by None o used replies = refl
-
-job_kept : (v : Verdict) (o : Op) → (act v o).op.job ≡ o.job
-job_kept Ended o = refl
-job_kept Changed o = refl
-job_kept Full o = refl
-job_kept Dry o = refl
-job_kept (Made first v read) o = job_by (wire_next o.wire (frame_of o.job o.place) v) o (o.used + 2) (counted read o.replies)
-
-pub step_job : (o : Op) (bytes : List ℕ) (buffer room : ℕ) (r : Option ℕ) → (step_of o bytes buffer room r).op.job ≡ o.job
-step_job o bytes buffer room r = job_kept (verdict_of o bytes buffer room r) o
-
 pub lent_kept : (o : Op) (bytes : List ℕ) (buffer room : ℕ) (r : Option ℕ) (list data₁ : List ℕ) → lent_to (step_of o bytes buffer room r).op list data₁ ≡ lent_to o list data₁
-lent_kept o bytes buffer room r list data₁ = ap (λ (j : Job). lent_if (list_job j) j.lent.«data» list data₁) (job_kept (verdict_of o bytes buffer room r) o)
+lent_kept o bytes buffer room r list data₁ = ap (λ (j : Job). lent_if (list_job j) j.lent.«data» list data₁) (step_job o bytes buffer room r)
 
 pub erases_kept : (o : Op) (bytes : List ℕ) (buffer room : ℕ) (r : Option ℕ) → erases_list (step_of o bytes buffer room r).op ≡ erases_list o
-erases_kept o bytes buffer room r = ap list_job (job_kept (verdict_of o bytes buffer room r) o)
+erases_kept o bytes buffer room r = ap list_job (step_job o bytes buffer room r)
 
 -- a save erases no list
 pub save_erases_none : (a n log : ℕ) → erases_list (write_pages_of a n log) ≡ false

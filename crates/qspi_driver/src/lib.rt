@@ -16,6 +16,7 @@ use qspi_calls::start;
 use qspi_operation::{LentLengthChanged, Op};
 use qspi_script::Status;
 use qspi_transfer::Due;
+use zedboard_bsp::qspi_spansion::LONGEST_LIST;
 
 pub mod state;
 
@@ -32,7 +33,7 @@ impl QspiSpansionS25Fl256SIoMode {
         ensures driver { result ≡ idle }
     {
         let op = start::read_page_read(0, 0, 0);
-        let numbers = [0u8; 256];
+        let numbers = [0u8; LONGEST_LIST];
         QspiSpansionS25Fl256SIoMode {
             state: State { op },
             list: SectorList { numbers },

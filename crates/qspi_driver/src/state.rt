@@ -15,7 +15,7 @@ use qspi_operation::{LentLengthChanged, Op, Stepped};
 use qspi_script::{Gives, Status};
 use qspi_transfer::Due;
 use zedboard_bsp::qspi_spansion::device_id::{BaseDeviceId, ExtendedDeviceId};
-use zedboard_bsp::qspi_spansion::words;
+use zedboard_bsp::qspi_spansion::{LONGEST_LIST, words};
 
 // What the driver knows between two accesses: the operation at hand.
 #[derive(Clone, Copy)]
@@ -27,7 +27,7 @@ pub struct State {
 // heap on the board, so there is room for the longest; how many they are says the operation.
 #[derive(Clone, Copy)]
 pub struct SectorList {
-    pub numbers: [u8; 256],
+    pub numbers: [u8; LONGEST_LIST],
 }
 
 // Why a start begins nothing: nothing is changed then.
@@ -115,7 +115,8 @@ impl Progress {
         self.clock
     }
 
-    // The place, from 0, of the entry that a list of sectors was refused for; 0 for any other answer.
+    // The place, from 0, of the entry that a list of sectors was refused for; 0 for any other answer, and no
+    // `Option`: clause `place` says 0 of those, and `gives` tells which answers have a place.
     pub fn place(self) -> u8
         ensures place { result ≡ place_given self.gives }
         ensures value { (n : ℕ) → self.gives ≡ gives.Place n → values_given self ≡ result ∷ [] }
@@ -171,7 +172,8 @@ pub fn begin_list(state: State, kept: SectorList, list: &[u32], log: usize) -> L
 }
 
 // What the operation at hand is lent: a list of sectors its own copy, as far as it is long, and no other
-// data with it; any other operation the caller's data.
+// data with it; any other operation the caller's data. Three functions take state, list and data one by one:
+// a struct of them would be made for each call, and taken apart in it.
 fn lent_to<'a>(state: State, list: &'a [u8], data: &'a [u8]) -> &'a [u8]
     ensures lent { result.now ≡ lent_to state.op list.now «data».now }
 {

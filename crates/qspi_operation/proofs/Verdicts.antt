@@ -1,5 +1,6 @@
 -- What a verdict tells: a step that makes an access has two words of log left, and one that makes none ends the run. Assumes nothing.
-use Rattle.std.proofs.Common.{◌≡◌, ℕ, ◌+◌, ◌≤◌, Bool, true, false, leb, List, length, sym, refl, ap, ◌∙◌, arith, leb-true}
+use Rattle.std.proofs.Common.{◌≡◌, ℕ, ◌+◌, ◌≤◌, Bool, true, false, leb, List, length, sym, refl, ap, ◌∙◌, leb-true}
+use Rattle.std.proofs.lemmas.Bool.{false≢true}
 use Rattle.qspi_transfer.specs.declared.Due.{Due}
 use Rattle.qspi_transfer.specs.declared.Due.TheVariants as due
 use Rattle.qspi_operation.specs.declared.Op.{Op}
@@ -11,7 +12,7 @@ use Rattle.qspi_operation.specs.Step.{Ended, Changed, Full, Dry, Made}
 use Rattle.qspi_operation.specs.Step.{is_going, access_of, answered, choose, same_lengths, verdict_of, act, step_of, log_of, buffer_of, noted, taken, counted, moved, written}
 
 pub no : {A : Type 0} → false ≡ true → A
-no h = absurd (let z : ◌≡◌ {A = ℕ} 0 1 = cc in omega arith)
+no h = absurd (false≢true h)
 
 -- whether a step makes an access
 abbrev pub makes : Verdict → Bool

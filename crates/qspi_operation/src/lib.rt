@@ -40,7 +40,7 @@ impl LentLengthChanged {
     pub fn number(self) -> u32
         ensures number { result ≡ paper.number paper.LentLengthChanged }
     {
-        25
+        Status::LentLengthChanged as u32
     }
 }
 
@@ -61,7 +61,8 @@ pub struct Stepped {
     pub answer: Status,
 }
 
-// One access, as its two log words, and whether it used a reply.
+// One access, as its two log words, and whether it used a reply. It is no `Access`: the log, the buffer, the wire
+// and the count of replies each take a part as it is, and each would match an `Access` first.
 #[derive(Clone, Copy)]
 struct Accessed {
     first: u32,
@@ -88,7 +89,7 @@ struct Passed {
 pub fn is_going(status: Status) -> bool
     ensures going { result ≡ is_going status }
 {
-    matches!(status, Status::Going)
+    status == Status::Going
 }
 
 impl Op {
@@ -248,17 +249,14 @@ fn answer_by(due: Due, replies: &[u32], at: usize) -> Result<Accessed, NoAccess>
     ensures verdict { verdict_on result ≡ answered due (reply_of replies.now at) }
 {
     match due {
-        Due::Read(offset) => {
-            if at < replies.len() {
-                Ok(Accessed {
-                    first: 0x100 + offset as u32,
-                    value: replies[at],
-                    read: true,
-                })
-            } else {
-                Err(NoAccess::RepliesEnded)
-            }
-        }
+        Due::Read(offset) => match replies.get(at) {
+            Some(&value) => Ok(Accessed {
+                first: 0x100 + offset as u32,
+                value,
+                read: true,
+            }),
+            None => Err(NoAccess::RepliesEnded),
+        },
         Due::Write(offset, value) => Ok(Accessed {
             first: offset as u32,
             value,
@@ -305,7 +303,9 @@ fn put(log: &mut [u32], at: usize, first: u32, value: u32)
     log[at + 1] = value;
 }
 
-// One access of an operation that is going on, or none, where the frame of its transfer is at hand.
+// One access of an operation that is going on, or none, where the frame of its transfer is at hand. Data,
+// buffer, log, replies and the place among them are handed on one by one, in all of this file: callers lend each
+// by itself, and a clause speaks of what becomes of each.
 fn pass(
     op: &Op,
     frame: Frame,
@@ -444,5 +444,5 @@ pub fn counted(op: Op) -> usize
 pub fn erases_list(op: Op) -> bool
     ensures list { result ≡ erases_list op }
 {
-    matches!(op.job.script.sequel, Sequel::Sectors)
+    op.job.script.sequel == Sequel::Sectors
 }

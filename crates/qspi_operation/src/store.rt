@@ -35,20 +35,20 @@ fn store_reply(buffer: &mut [u8], place: Place, dummy: u32, at: u32, reply: u32)
 fn is_taking(phase: Phase) -> bool
     ensures taking { result ≡ is_taking phase }
 {
-    matches!(phase, Phase::Take)
+    phase == Phase::Take
 }
 
 fn is_reading(stage: Stage) -> bool
     ensures reading { result ≡ is_reading stage }
 {
-    matches!(stage, Stage::Read)
+    stage == Stage::Read
 }
 
 // How many bytes of the reply after the first are dropped.
 fn dummy_bytes(dummy: bool) -> u32
     ensures count { result ≡ skipped dummy }
 {
-    if dummy { 1 } else { 0 }
+    dummy as u32
 }
 
 // What an access of a value does to the lent buffer: only a read's reply is stored.

@@ -34,7 +34,7 @@ pub fn of_run(request: &Request, ran: Ran) -> Ended {
         None
     };
     Ended {
-        answer: (!ran.refused).then_some(ran.answer),
+        answer: ran.answer,
         place: refused_place(op),
         used: op.used,
         replies: op.replies,

@@ -60,7 +60,7 @@ impl Came {
                 .made
                 .saturating_add(self.row.left.saturating_sub(row.left)),
             number,
-            answer: (!ran.refused).then_some(ran.answer),
+            answer: ran.answer,
             is_last: row.over || row.left == 0 || !is_followed,
             left_out: row.over && row.left != 0 && is_followed,
         }

@@ -10,10 +10,8 @@ use std::fmt;
 use std::io::{Result, Write, writer};
 use zedboard_bsp::qspi_spansion::words::{bytes_of, top_byte};
 
-// Words of log that are rendered at once, and their text.
+// Words of log that are rendered at once.
 const PORTION: usize = 1024;
-
-const TEXT: usize = 7200;
 
 // Which call is printed, and where in its row it stands.
 #[derive(Clone, Copy, Debug)]
@@ -131,7 +129,7 @@ pub fn print_left_out(rt: &impl Print, number: usize, answer: Option<Status>) ->
 
 fn print_accesses(rt: &impl Print, log: &[u32]) -> Result<()> {
     let mut output = writer(rt);
-    let mut lines = [0u8; TEXT];
+    let mut lines = [0u8; access_log::ROOM];
     for portion in log.chunks(PORTION) {
         let rendered = access_log::render_words(portion, 0, &mut lines);
         output.write_all(&lines[..rendered.len])?;

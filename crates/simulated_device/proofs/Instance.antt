@@ -9,6 +9,7 @@ use native.Mathlib.Omega.{arith}
 use lib.Dec.{eqb, ltb, leb}
 use lib.ListN.{length, take, set, length-set, length-append}
 use lib.Seq.{take-suc-set}
+use Rattle.std.proofs.lemmas.Bool.{and_parts}
 use borrow.Author.Tests.{ltb-true, ltb-false, leb-true, le-leb, lt-leb}
 use Rattle.zynq7000.specs.Access.{first_word, value_word, encode}
 use Rattle.zynq7000.specs.declared.qspi.Access.{Access}
@@ -19,6 +20,7 @@ use Rattle.qspi_transfer.specs.declared.Due.TheVariants as due
 use Rattle.qspi_transfer.specs.declared.Wire.{Wire}
 use Rattle.qspi_script.specs.Stages.{frame_of}
 use Rattle.qspi_operation.specs.declared.Op.{Op}
+use Rattle.qspi_operation.proofs.PointLaws.{encode_append}
 use Rattle.std.specs.Prelude.{Option, Some, None, Ok}
 use Rattle.qspi_operation.specs.Step.{Verdict, Ended, Changed, Full, Dry, Made}
 use Rattle.qspi_operation.specs.Step.{Asked, length_changed, is_going, access_of, shown, pick_asked, due_of, answered, choose, same_lengths, verdict_of, act, moved_by, counted, noted, written}
@@ -40,8 +42,7 @@ use Rattle.simulated_device.proofs.Kept.{read_choices, write_choices}
 
 encode_snoc : (l : List Access) (a : Access) → encode (l ++ a ∷ []) ≡ encode l ++ first_word a ∷ value_word a ∷ []
 unfolding encode
-encode_snoc [] a = refl
-encode_snoc (b ∷ l) a = ap (λ (z : List ℕ). first_word b ∷ value_word b ∷ z) (encode_snoc l a)
+encode_snoc l a = encode_append l (a ∷ [])
 
 take_written : (log : List ℕ) (at first v : ℕ) → at + 2 ≤ length log → take (at + 2) (written log at first v) ≡ take at log ++ first ∷ v ∷ []
 take_written log at first v p =
@@ -152,10 +153,6 @@ no_lengths : (g f : Bool) (x : Verdict) → makes (choose g (choose false (choos
 no_lengths true f x = refl
 no_lengths false f x = refl
 
-first_of : (a b : Bool) → (a && b) ≡ true → a ≡ true
-first_of true b h = refl
-first_of false b h = absurd (true≢false (sym h))
-
 module _ (bytes : List ℕ) (base : ℕ) (before : controller.Device) (replies : ℕ) (t : Turn) (l : List Access) (st : Stage bytes base before l t) where
   abbrev o : Op
   o = t.ran.op
@@ -191,7 +188,7 @@ module _ (bytes : List ℕ) (base : ℕ) (before : controller.Device) (replies :
     ended_idles g = rw g
 
     abbrev met : Asked → Bool → Turn
-    met a b = after_meeting (met_on a b (sim_in t)) o t.ran.answer bytes t.buffer t.log
+    met a b = after_meeting (met_on a b (sim_in t)) o bytes t.buffer t.log
 
     read_turn : (x : ℕ) → is_going o.status ≡ true → access_of o.job o.place o.wire bytes ≡ due.Read x → (b : Bool) → Further bytes base before (suc (length l)) (met (Ok (Some (due.Read x))) b)
     read_turn x g h true =
@@ -233,13 +230,13 @@ module _ (bytes : List ℕ) (base : ℕ) (before : controller.Device) (replies :
     due_turn a (reading {x} g h) b = read_turn x g h b
     due_turn a (writing {x} {v} g h) b = write_turn x v g h b
     due_turn a (ended g) b = idles None (ended_idles g)
-    due_turn a (changed h) b = absurd (true≢false (sym (first_of (eqb (length bytes) o.job.lent.«data») _ alike) ∙ h))
+    due_turn a (changed h) b = absurd (true≢false (sym (and_parts (eqb (length bytes) o.job.lent.«data») _ alike).0 ∙ h))
 
   turn_on : Further bytes base before (suc (length l)) (turn_of replies bytes t)
   turn_on = go (same_lengths o.job (length bytes) (length t.buffer) (length t.log)) (ltb (length t.log - o.used) 2) refl refl
     where
       go : (s b : Bool) → same_lengths o.job (length bytes) (length t.buffer) (length t.log) ≡ s → ltb (length t.log - o.used) 2 ≡ b
-          → Further bytes base before (suc (length l)) (after_meeting (met_on (cond s (cond b (Ok None) (due_of o bytes)) (Ok None)) (ltb o.replies replies) (sim_in t)) o t.ran.answer bytes t.buffer t.log)
+          → Further bytes base before (suc (length l)) (after_meeting (met_on (cond s (cond b (Ok None) (due_of o bytes)) (Ok None)) (ltb o.replies replies) (sim_in t)) o bytes t.buffer t.log)
       go false b h k = unlike h
       go true true h k = full k
       go true false h k =

@@ -7,10 +7,11 @@ use mathlib.Core.List.{List, [], ◌∷◌, ◌++◌}
 use native.Mathlib.Omega.{arith}
 use lib.ListN.{length, take, length-append}
 use lib.Seq.{length-take-le}
-use Rattle.zynq7000.specs.Access.{encode, first_word, value_word}
+use Rattle.zynq7000.specs.Access.{encode}
 use Rattle.zynq7000.specs.declared.qspi.Access.{Access}
 use Rattle.zynq7000.proofs.AccessLaws.{length_encode}
 use Rattle.qspi_operation.specs.declared.Op.{Op}
+use Rattle.qspi_operation.proofs.PointLaws.{encode_append}
 use Rattle.power_cut.specs.Controller as controller
 use Rattle.simulated_device.specs.Simulated.{sim_of}
 use Rattle.simulated_device.specs.Running.{Turn, goes_on, turns, beginning}
@@ -39,11 +40,6 @@ follows w o replies bytes buffer log sent received array {n} {r} {w₁} {buffer�
     (f ∙ ap (followed w) u.0, u.1)
 
 -- ---- logs one behind the other
-
-encode_append : (l m : List Access) → encode (l ++ m) ≡ encode l ++ encode m
-unfolding encode
-encode_append [] m = refl
-encode_append (a ∷ l) m = ap (λ (z : List ℕ). first_word a ∷ value_word a ∷ z) (encode_append l m)
 
 -- two words of log an access
 two_each : (n : ℕ) (log : List ℕ) (l : List Access) → take n log ≡ encode l → n ≤ length log → n / 2 ≡ length l

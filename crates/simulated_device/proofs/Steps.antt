@@ -1,14 +1,14 @@
--- What the code's proofs share: tests in a row, places of a list, and the turns of the loops. Assumes nothing.
-use Prim.Native.Nat.{ℕ, zero, suc, ◌+◌, ◌-◌, ◌<◌, ◌≤◌}
+-- What the code's proofs share: tests in a row, and the turns of the loops. Assumes nothing.
+use Prim.Native.Nat.{ℕ, suc, ◌+◌, ◌-◌, ◌<◌, ◌≤◌}
 use mathlib.Core.Path.{◌≡◌, refl, sym, ap, subst, ◌∙◌}
 use mathlib.Core.Bool.{Bool, true, false, cond}
-use mathlib.Core.List.{List, [], ◌∷◌}
+use mathlib.Core.List.{List}
 use Rattle.std.specs.Prelude.{Result}
 use native.Mathlib.Numerals.{add-one}
 use native.Mathlib.Omega.{arith}
 use borrow.Author.Tests.{ltb-true, eq-eqb, ne_eqb}
 use lib.Dec.{eqb, ltb}
-use lib.ListN.{length, get_or, set}
+use lib.ListN.{get_or, set}
 use Rattle.qspi_operation.proofs.Verdicts.{no}
 use Rattle.simulated_device.specs.Simulated.{Sim, sim_of, can_go, can_go_now, word_out, with_tx, waited, passed, width_at, done_byte, done_from, outcome, after_executed, configured, wrote, write_of, sending, after_sent, After}
 use Rattle.simulated_device.specs.declared.Device.{Device}
@@ -16,12 +16,6 @@ use Rattle.simulated_device.specs.declared.Rx.{Rx}
 use Rattle.simulated_device.specs.declared.Tx.{Tx}
 use Rattle.simulated_device.specs.declared.Refused.{Refused}
 use Rattle.simulated_device.specs.declared.work.Effect.{Effect}
-
--- inside of a list the default does not matter
-pub get_d_inside : (l : List ℕ) (i d e : ℕ) → i < length l → get_or l i d ≡ get_or l i e
-get_d_inside [] i d e h = omega arith
-get_d_inside (x ∷ l) zero d e h = refl
-get_d_inside (x ∷ l) (suc i) d e h = get_d_inside l i d e (omega arith)
 
 -- ---- words go out
 

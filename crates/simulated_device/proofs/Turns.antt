@@ -3,7 +3,7 @@ use Prim.Native.Nat.{ℕ, zero, suc, ◌+◌, ◌-◌, ◌<◌, ◌≤◌}
 use mathlib.Core.Path.{◌≡◌, refl, sym, ap, subst, ◌∙◌}
 use mathlib.Core.Bool.{Bool, true, false, cond}
 use mathlib.Core.List.{List}
-use Rattle.std.specs.Prelude.{Option, None, Result, Ok, Err}
+use Rattle.std.specs.Prelude.{Option, Some, None, Result, Ok, Err}
 use native.Mathlib.Omega.{arith}
 use lib.Dec.{ltb}
 use lib.ListN.{length}
@@ -82,7 +82,7 @@ met_refused y {r} h = go y.refused refl
 
 due_is : (replies : ℕ) (bytes : List ℕ) (t : Turn) {a : Asked} {b : Bool} → a ≡ due_in t.ran.op bytes (length t.buffer) (length t.log)
     → b ≡ ltb t.ran.op.replies replies
-    → turn_of replies bytes t ≡ after_meeting (met_on a b (sim_in t)) t.ran.op t.ran.answer bytes t.buffer t.log
+    → turn_of replies bytes t ≡ after_meeting (met_on a b (sim_in t)) t.ran.op bytes t.buffer t.log
 due_is replies bytes t e k = rw (e, k)
 
 met_is : (m : Meeting) {x : Result Met Refused} {sent received array : List ℕ} (r : Ran) (buffer log : List ℕ) → MetIs m x sent received array
@@ -93,29 +93,29 @@ met_is m r buffer log x = simp (x.1.0, x.1.1.0, x.1.1.1)
 pub met_turn : (replies : ℕ) (bytes : List ℕ) (t : Turn) {a : Asked} {b : Bool} {m : Met} {sent received array : List ℕ} {s : Stepped} {buffer log : List ℕ}
     → a ≡ due_in t.ran.op bytes (length t.buffer) (length t.log) → b ≡ ltb t.ran.op.replies replies → MetIs (met_on a b (sim_in t)) (Ok m) sent received array
     → StepIs t.ran.op bytes t.buffer t.log m.reply s buffer log
-    → turn_from (ran_of s.op s.answer m.device false) buffer log sent received array ≡ turn_of replies bytes t
+    → turn_from (ran_of s.op (Some s.answer) m.device) buffer log sent received array ≡ turn_of replies bytes t
 met_turn replies bytes t {a} {b} {m} {sent} {received} {array} {s} {buffer} {log} e k x p =
     let y : Meeting = met_on a b (sim_in t) in
     let made = met_made y x.0 in
     let q = subst (λ (z : Option ℕ). StepIs t.ran.op bytes t.buffer t.log z s buffer log) made.1.1 p in
     let f : y.refused ≡ false = made.0 in
     let d : m.device ≡ y.sim.device = made.1.0 in
-    met_is y (ran_of s.op s.answer m.device false) buffer log x
+    met_is y (ran_of s.op (Some s.answer) m.device) buffer log x
     ∙ (simp (d, q.0, q.1.0, q.1.1)
-    (sym (due_is replies bytes t e k ∙ ap (λ (z : Bool). cond z (turn_at (ran_of t.ran.op t.ran.answer y.sim.device true) t.buffer t.log y.sim) (stepped t.ran.op bytes t.buffer t.log y.reply y.sim)) f)))
+    (sym (due_is replies bytes t e k ∙ ap (λ (z : Bool). cond z (turn_at (ran_of t.ran.op None y.sim.device) t.buffer t.log y.sim) (stepped t.ran.op bytes t.buffer t.log y.reply y.sim)) f)))
 
 -- the device refuses
 pub refused_turn : (replies : ℕ) (bytes : List ℕ) (t : Turn) {a : Asked} {b : Bool} (r : Refused) {sent received array : List ℕ}
     → a ≡ due_in t.ran.op bytes (length t.buffer) (length t.log) → b ≡ ltb t.ran.op.replies replies → MetIs (met_on a b (sim_in t)) (Err r) sent received array
-    → turn_from (ran_of t.ran.op t.ran.answer r.device true) t.buffer t.log sent received array ≡ turn_of replies bytes t
+    → turn_from (ran_of t.ran.op None r.device) t.buffer t.log sent received array ≡ turn_of replies bytes t
 refused_turn replies bytes t {a} {b} r e k x =
     let y : Meeting = met_on a b (sim_in t) in
     let refused = met_refused y x.0 in
     let f : y.refused ≡ true = refused.0 in
     let d : r.device ≡ y.sim.device = refused.1 in
-    met_is y (ran_of t.ran.op t.ran.answer r.device true) t.buffer t.log x
+    met_is y (ran_of t.ran.op None r.device) t.buffer t.log x
     ∙ (simp d
-    (sym (due_is replies bytes t e k ∙ ap (λ (z : Bool). cond z (turn_at (ran_of t.ran.op t.ran.answer y.sim.device true) t.buffer t.log y.sim) (stepped t.ran.op bytes t.buffer t.log y.reply y.sim)) f)))
+    (sym (due_is replies bytes t e k ∙ ap (λ (z : Bool). cond z (turn_at (ran_of t.ran.op None y.sim.device) t.buffer t.log y.sim) (stepped t.ran.op bytes t.buffer t.log y.reply y.sim)) f)))
 
 -- ---- the turns of a run
 

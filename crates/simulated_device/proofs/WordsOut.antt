@@ -2,7 +2,7 @@
 -- showed it. Assumes nothing.
 use Prim.Native.Nat.{ℕ, suc, ◌+◌, ◌-◌, ◌≤◌, ◌<◌}
 use mathlib.Core.Path.{◌≡◌, refl, sym, ap, ◌∙◌}
-use mathlib.Core.Bool.{Bool, true, false, cond, true≢false}
+use mathlib.Core.Bool.{Bool, true, false, cond}
 use mathlib.Core.List.{List, [], ◌∷◌, ◌++◌, append_assoc, append-nil}
 use native.Mathlib.Omega.{arith}
 use lib.Dec.{eqb, ltb}
@@ -10,6 +10,7 @@ use lib.ListN.{length, get_or, set, take, length-append, length-set, get_or-appe
 use lib.Seq.{slice, take-suc-set, get_or-take, length-take-le, drop-append-le}
 use borrow.Author.Tests.{lt-ltb, le-ltb, ltb-true, eqb-true, eqb-false, eq-eqb}
 use Rattle.zedboard_bsp.specs.Words.{word_of}
+use Rattle.qspi_operation.proofs.Verdicts.{no}
 use Rattle.power_cut.specs.Flash.{Flash, busy, settles}
 use Rattle.power_cut.specs.Controller.{is_status_read, shows_busy, shows_program_error, shows_erase_error, Shows, out, idle, Trace, still, quiet}
 use Rattle.power_cut.specs.Controller as controller
@@ -19,9 +20,6 @@ use Rattle.simulated_device.specs.Simulated.{Sim, sim_of, shown, can_go_now, wor
 use Rattle.simulated_device.specs.declared.Chip.{Chip}
 use Rattle.simulated_device.proofs.Steps.{released_not_out, has_room}
 use Rattle.simulated_device.proofs.Standing.{Holds, resting, working, Fits, Stands, stands, stands_as, Leads, nowhere}
-
-no : {A : Type 0} → true ≡ false → A
-no e = absurd (true≢false e)
 
 -- ---- lists
 
@@ -44,8 +42,8 @@ slice_snoc i j l v p q =
 
 status_first : (bs : List ℕ) → is_status_read bs ≡ true → (0 < length bs) × (get_or bs 0 0 ≡ 0x05)
 unfolding is_status_read
-status_first [] h = no (sym h)
-status_first (b ∷ []) h = no (sym h)
+status_first [] h = no h
+status_first (b ∷ []) h = no h
 status_first (b ∷ c ∷ bs) h = (omega arith, eqb-true b 0x05 h)
 
 record ShowsStatus (reply : ℕ) (b : Bool) : Type 0 where

@@ -18,7 +18,7 @@ use Rattle.simulated_device.specs.Replies.{byte_at}
 use Rattle.simulated_device.specs.Simulated.{done_byte, done_from, within, programming, erasing}
 use Rattle.simulated_device.specs.declared.work.Effect.{Effect}
 use Rattle.simulated_device.specs.declared.work.Work.{Work}
-use Rattle.simulated_device.proofs.Steps.{get_d_inside}
+use Rattle.std.proofs.lemmas.List.{get_or_default}
 
 -- ---- the lent part
 
@@ -57,7 +57,7 @@ module _ (does : Effect) (at bytes : ℕ) (sent : List ℕ) where
           let h : i ≡ j = eqb-true i j e in
           rw (sym h)
           (done_apart n (suc i) (set l (at + i) (new i l)) (at + i) (inl (omega arith))
-          ∙ (get_or-set_same l (at + i) (new i l) 0xFF (omega arith) ∙ ap (λ (z : ℕ). done_byte does z i bytes sent) (get_d_inside l (at + i) 0 0xFF (omega arith))))
+          ∙ (get_or-set_same l (at + i) (new i l) 0xFF (omega arith) ∙ ap (λ (z : ℕ). done_byte does z i bytes sent) (get_or_default l (at + i) 0 0xFF (omega arith))))
       go false e more =
           let h = eqb-false i j e in
           more (omega (arith, h))

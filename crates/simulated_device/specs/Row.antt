@@ -1,6 +1,6 @@
 -- A row of calls: document 02, U2: "none but the last ended by 23 or 24, each on the flash and controller as the one before left them". The cut
 -- point is a number of accesses over the whole row.
-use Rattle.std.specs.Prelude.{ℕ, ◌-◌, ◌/◌, Bool, true, false, cond, List, [], ◌∷◌, ◌++◌, take}
+use Rattle.std.specs.Prelude.{ℕ, Option, Some, None, ◌-◌, ◌/◌, Bool, true, false, cond, List, [], ◌∷◌, ◌++◌, take}
 use Rattle.qspi_script.specs.declared.Status.{Status}
 use Rattle.qspi_script.specs.declared.Status.TheVariants as status
 use Rattle.qspi_operation.specs.declared.Op.{Op}
@@ -39,8 +39,13 @@ is_stopped status.ListTooLong = false
 abbrev pub may_make : Row → ℕ
 may_make w = cond w.over 0 w.left
 
+-- "ended by 23 or 24", or the device could not go on
+abbrev pub ends_row : Option Status → Bool
+ends_row None = true
+ends_row (Some a) = is_stopped a
+
 abbrev pub is_over : Row → Ran → Bool
-is_over w r = cond w.over true (cond r.refused true (is_stopped r.answer))
+is_over w r = cond w.over true (ends_row r.answer)
 
 -- an access takes two words of log
 abbrev pub row_after : Row → Ran → Row

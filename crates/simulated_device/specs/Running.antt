@@ -19,8 +19,9 @@ pub record Turn : Type 0 where
   pub received : List ℕ
   pub array : List ℕ
 
-abbrev pub ran_of : Op → Status → Device → Bool → Ran
-ran_of o a d refused = record { op = o; answer = a; device = d; refused = refused }
+-- without an answer where the device could not go on
+abbrev pub ran_of : Op → Option Status → Device → Ran
+ran_of o a d = record { op = o; answer = a; device = d }
 
 abbrev pub turn_at : Ran → List ℕ → List ℕ → Sim → Turn
 turn_at r buffer log s = record { ran = r; buffer = buffer; log = log; sent = s.sent; received = s.received; array = s.array }
@@ -32,7 +33,7 @@ sim_in t = sim_of t.ran.device t.sent t.received t.array
 abbrev pub stepped : Op → List ℕ → List ℕ → List ℕ → Option ℕ → Sim → Turn
 stepped o bytes buffer log r s =
     turn_at
-    (ran_of (step_of o bytes (length buffer) (length log) r).op (step_of o bytes (length buffer) (length log) r).answer s.device false)
+    (ran_of (step_of o bytes (length buffer) (length log) r).op (Some (step_of o bytes (length buffer) (length log) r).answer) s.device)
     (buffer_of o bytes buffer (length log) r)
     (log_of o bytes (length buffer) log r)
     s
@@ -69,17 +70,21 @@ abbrev pub due_in : Op → List ℕ → ℕ → ℕ → Asked
 due_in o bytes buffer room =
     cond (same_lengths o.job (length bytes) buffer room) (cond (ltb (room - o.used) 2) (Ok None) (due_of o bytes)) (Ok None)
 
-abbrev pub after_meeting : Meeting → Op → Status → List ℕ → List ℕ → List ℕ → Turn
-after_meeting m o a bytes buffer log =
-    cond m.refused (turn_at (ran_of o a m.sim.device true) buffer log m.sim) (stepped o bytes buffer log m.reply m.sim)
+abbrev pub after_meeting : Meeting → Op → List ℕ → List ℕ → List ℕ → Turn
+after_meeting m o bytes buffer log =
+    cond m.refused (turn_at (ran_of o None m.sim.device) buffer log m.sim) (stepped o bytes buffer log m.reply m.sim)
 
 -- one step; at most so many reads get a reply
 abbrev pub turn_of : ℕ → List ℕ → Turn → Turn
 turn_of replies bytes t =
-    after_meeting (met_on (due_in t.ran.op bytes (length t.buffer) (length t.log)) (ltb t.ran.op.replies replies) (sim_in t)) t.ran.op t.ran.answer bytes t.buffer t.log
+    after_meeting (met_on (due_in t.ran.op bytes (length t.buffer) (length t.log)) (ltb t.ran.op.replies replies) (sim_in t)) t.ran.op bytes t.buffer t.log
+
+abbrev pub going_on : Option Status → Bool
+going_on None = false
+going_on (Some a) = is_going a
 
 abbrev pub goes_on : Ran → Bool
-goes_on r = cond r.refused false (is_going r.answer)
+goes_on r = going_on r.answer
 
 -- to the end, or until the power fails after n accesses: a step makes one, or is the last
 unfoldable pub turns : ℕ → ℕ → List ℕ → Turn → Turn
@@ -88,4 +93,4 @@ turns (suc n) replies bytes t = cond (goes_on t.ran) (turns n replies bytes (tur
 
 abbrev pub beginning : Op → Device → List ℕ → List ℕ → List ℕ → List ℕ → List ℕ → Turn
 beginning o d buffer log sent received array =
-    record { ran = ran_of o o.status d false; buffer = buffer; log = log; sent = sent; received = received; array = array }
+    record { ran = ran_of o (Some o.status) d; buffer = buffer; log = log; sent = sent; received = received; array = array }

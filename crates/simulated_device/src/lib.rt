@@ -1,7 +1,7 @@
 // A controller with the flash behind it, to run the driver against on any machine: one device of those
 // that document 01, "The flash, as defined here", allows. Its memory is lent: the bytes sent since chip
 // select fell, the RX words, and a part of the array, outside of which every byte is FF. `Tx` and `Rx` count
-// what is used of it, in place of a `Vec`, so that no access can run out of memory. Each function is lent only
+// what is used of it, in place of a `Vec`, so that `read` and `write` cannot run out of memory. Each function is lent only
 // the parts that it uses, by `&` where it leaves them alone, and not all three in one struct.
 #![tactic(auto)]
 

@@ -3,24 +3,27 @@ ghost use Rattle.std.specs.Prelude.{◌≡◌, get_or};
 ghost use Rattle.simulated_device.specs.Replies.{byte_at, address_in, status_of, data_byte, read_reply, id_reply, reply_of};
 
 use crate::Chip;
+use zedboard_bsp::qspi_spansion::RegisterId;
 use zedboard_bsp::qspi_spansion::words::data_word;
 
-// The commands that the flash knows, by the byte that is sent first.
-pub const PAGE_PROGRAM: u8 = 0x02;
+// The commands that the flash knows, by the byte that is sent first: constants, as a `match` on that byte takes.
+pub const PAGE_PROGRAM: u8 = RegisterId::PageProgram as u8;
 
-pub const READ: u8 = 0x03;
+pub const READ: u8 = RegisterId::Read as u8;
 
-pub const WRITE_DISABLE: u8 = 0x04;
+pub const WRITE_DISABLE: u8 = RegisterId::WriteDisable as u8;
 
-pub const READ_STATUS: u8 = 0x05;
+pub const READ_STATUS: u8 = RegisterId::ReadStatus1 as u8;
 
-pub const WRITE_ENABLE: u8 = 0x06;
+pub const WRITE_ENABLE: u8 = RegisterId::WriteEnable as u8;
 
-pub const FAST_READ: u8 = 0x0B;
+pub const FAST_READ: u8 = RegisterId::FastRead as u8;
 
-pub const READ_ID: u8 = 0x9F;
+pub const READ_ID: u8 = RegisterId::ReadId as u8;
 
-pub const SECTOR_ERASE: u8 = 0xD8;
+pub const SECTOR_ERASE: u8 = RegisterId::SectorErase as u8;
+
+// `array` and `base` are no struct: one would be built in `reply`, and only `byte_at` would look into it.
 
 // The byte of the array at an address.
 fn byte_at(array: &[u8], base: u32, address: u32) -> u8

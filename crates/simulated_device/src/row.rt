@@ -35,7 +35,8 @@ pub fn start(choices: Choices, accesses: usize) -> Row
     }
 }
 
-// Whether 23 or 24 ended it: chip select may be low, and words may wait.
+// Whether 23 or 24 ended it: chip select may be low, and words may wait. cut_cases has the same test, as it
+// runs no device.
 pub fn is_stopped(answer: Status) -> bool
     ensures stopped { result ≡ is_stopped answer }
 {
@@ -53,7 +54,7 @@ fn may_make(row: Row) -> usize
 fn is_over(row: Row, ran: Ran) -> bool
     ensures over { result ≡ is_over row ran }
 {
-    row.over || ran.refused || is_stopped(ran.answer)
+    row.over || ran.answer.is_none_or(|answer| is_stopped(answer))
 }
 
 // Each access takes two words of log.

@@ -9,13 +9,12 @@ use qspi_operation::{LentLengthChanged, Op};
 use qspi_script::Status;
 use qspi_transfer::Due;
 
-// Where a run stands: the operation and its answer, the device, and whether the device could not go on.
+// Where a run stands: the operation, its answer, none where the device could not go on, and the device.
 #[derive(Clone, Copy)]
 pub struct Ran {
     pub op: Op,
-    pub answer: Status,
+    pub answer: Option<Status>,
     pub device: Device,
-    pub refused: bool,
 }
 
 // What the device has for the access that is due.
@@ -25,7 +24,7 @@ pub struct Met {
     pub reply: Option<u32>,
 }
 
-// Whether each lent length is the one of the start.
+// Whether each lent length is the one of the start: qspi_operation keeps its own of this to itself.
 fn same_lengths(op: Op, data: usize, buffer: usize, log: usize) -> bool
     ensures same { result ≡ same_lengths op.job «data» buffer log }
 {
@@ -111,9 +110,8 @@ pub fn run(
             Err(refused) => {
                 return Ran {
                     op,
-                    answer,
+                    answer: None,
                     device: refused.device,
-                    refused: true,
                 };
             }
         };
@@ -124,8 +122,7 @@ pub fn run(
     }
     Ran {
         op,
-        answer,
+        answer: Some(answer),
         device,
-        refused: false,
     }
 }

@@ -78,7 +78,7 @@ pub fn pass(d: Device, sent: &[u8], received: &mut [u32], array: &[u8]) -> Devic
 
 // ---- words are written
 
-// The bytes of a TX word at an offset, 0 where it is none.
+// The bytes of a TX word at an offset. 0 where it is none, and no `None`: `send` counts that many of any offset.
 pub fn width(offset: u8) -> usize
     ensures width { result ≡ width_at offset }
 {

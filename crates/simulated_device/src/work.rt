@@ -41,7 +41,8 @@ fn erasing(address: u32) -> Work
     }
 }
 
-// Page program and sector erase need the latch, and data or an address.
+// Page program and sector erase need the latch, and data or an address. `sent` is longer than the `bytes` of it
+// that count, here and below, and no slice of them: a device may count more than it is lent.
 fn asked_for(chip: Chip, bytes: usize, sent: &[u8]) -> Option<Work>
     ensures work { result ≡ asked_for chip bytes sent.now }
 {
@@ -84,6 +85,7 @@ fn done(w: Work, at: usize, bytes: usize, sent: &[u8], array: &mut [u8])
     requires { at + w.size ≤ length array.old }
     ensures array { array.new ≡ done_from w.size 0 w.effect at bytes sent.now array.old }
 {
+    // By place, since a byte becomes what its place in the work says (`done_byte`).
     for i in 0..w.size {
         array[at + i] = done_byte(w.effect, array[at + i], i, bytes, sent);
     }

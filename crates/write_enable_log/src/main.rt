@@ -16,7 +16,7 @@ fn main(rt: HostRuntime) -> Result<()> {
 }
 
 fn print(rt: &impl Print, log: &[u32]) -> Result<()> {
-    let mut text = [0u8; 7200];
+    let mut text = [0u8; access_log::ROOM];
     let rendered = access_log::render_words(log, 0, &mut text);
     writer(rt).write_all(&text[..rendered.len])
 }

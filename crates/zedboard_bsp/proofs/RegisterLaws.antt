@@ -2,11 +2,12 @@
 -- read, and where no update is needed both registers stay. Assumes nothing.
 use Prim.Native.Nat.{ℕ, ◌+◌, ◌*◌, ◌/◌, ◌%◌, ◌<◌, ◌≤◌}
 use mathlib.Core.Path.{◌≡◌, refl, sym, ap, ◌∙◌}
-use mathlib.Core.Bool.{Bool, true, false, cond, not, ◌&&◌, ◌||◌, true≢false}
+use mathlib.Core.Bool.{Bool, true, false, cond, not, ◌&&◌, ◌||◌}
 use mathlib.Core.Logic.{◌⊎◌, inl, inr}
 use native.Mathlib.Omega.{arith}
 use lib.Dec.{eqb, ltb}
 use lib.Pow.{field, mod-mod-pow}
+use Rattle.std.proofs.lemmas.Bool.{or_parts}
 use borrow.Author.Tests.{ltb-true, ltb-false, eqb-true, eqb-false, not-false, eq-eqb, ne_eqb}
 use Rattle.zynq7000.specs.Bits.{bit}
 use Rattle.zynq7000.specs.Qspi.{field as field_at}
@@ -71,10 +72,6 @@ status_other clear sr j h k = go (clear && is_protected sr)
 
 -- ---- an update is needed precisely where it changes a register
 
-neither : (a b : Bool) → a || b ≡ false → (a ≡ false) × (b ≡ false)
-neither true b e = absurd (true≢false e)
-neither false b e = (refl, e)
-
 quad_same : (quad : Bool) (cr : ℕ) → quad && eqb (field_value quad_bit cr) 0 ≡ false → quad_set quad cr ≡ cr
 quad_same true cr e =
     let n : cr / 2 % 2 ≡ 0 → ⊥ = eqb-false (cr / 2 % 2) 0 e in
@@ -91,8 +88,8 @@ no_update quad set clear l cr sr e =
     let a = quad && eqb (field_value quad_bit cr) 0 in
     let b = set && not (eqb (field_value latency_code cr) (l % 4)) in
     let c = clear && is_protected sr in
-    let p = neither (a || b) c e in
-    let q = neither a b p.0 in (
+    let p = or_parts (a || b) c e in
+    let q = or_parts a b p.0 in (
       ap (λ (n : ℕ). configured_cr false set l n) (quad_same quad cr q.0) ∙ latency_same set l cr q.1,
       ap (λ (t : Bool). cond t (protected sr 0) sr) p.1,
     )

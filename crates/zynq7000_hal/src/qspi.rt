@@ -359,7 +359,8 @@ fn loopback_write(config: BaudRateConfig) -> Option<u32>
     }
 }
 
-// The words of `initialize` for a clock configuration, a phase and a polarity (two flags, as C passes them).
+// The words of `initialize` for a clock configuration, a phase and a polarity: two flags, since an enum of the
+// four modes would be taken apart into the register's two bits again.
 pub fn initialize_words(
     clock_config: ClockConfig,
     phase: bool,

@@ -11,6 +11,7 @@ use crate::qspi_operation::LentLengthChanged;
 use crate::qspi_operation::Op;
 use crate::qspi_script::Status;
 use crate::qspi_transfer::Due;
+use crate::zedboard_bsp::qspi_spansion::LONGEST_LIST;
 
 pub mod state;
 
@@ -25,7 +26,7 @@ impl QspiSpansionS25Fl256SIoMode {
     // A driver with no operation at hand.
     pub fn idle() -> QspiSpansionS25Fl256SIoMode {
         let op = start::read_page_read(0, 0, 0);
-        let numbers = [0u8; 256];
+        let numbers = [0u8; LONGEST_LIST];
         QspiSpansionS25Fl256SIoMode {
             state: State { op },
             list: SectorList { numbers },

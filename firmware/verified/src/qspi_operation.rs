@@ -36,7 +36,7 @@ pub struct LentLengthChanged;
 impl LentLengthChanged {
     // Document 01's number.
     pub fn number(self) -> u32 {
-        25
+        Status::LentLengthChanged as u32
     }
 }
 
@@ -55,7 +55,8 @@ pub struct Stepped {
     pub answer: Status,
 }
 
-// One access, as its two log words, and whether it used a reply.
+// One access, as its two log words, and whether it used a reply. It is no `Access`: the log, the buffer, the wire
+// and the count of replies each take a part as it is, and each would match an `Access` first.
 #[derive(Clone, Copy, Debug, PartialEq, Eq)]
 struct Accessed {
     first: u32,
@@ -80,7 +81,7 @@ struct Passed {
 }
 
 pub fn is_going(status: Status) -> bool {
-    matches!(status, Status::Going)
+    status == Status::Going
 }
 
 impl Op {
@@ -217,17 +218,14 @@ pub fn due(op: Op, data: &[u8]) -> Result<Option<Due>, LentLengthChanged> {
 // A read uses the reply at a place; a write uses none.
 fn answer_by(due: Due, replies: &[u32], at: usize) -> Result<Accessed, NoAccess> {
     match due {
-        Due::Read(offset) => {
-            if at < replies.len() {
-                Ok(Accessed {
-                    first: 0x100 + offset as u32,
-                    value: replies[at],
-                    read: true,
-                })
-            } else {
-                Err(NoAccess::RepliesEnded)
-            }
-        }
+        Due::Read(offset) => match replies.get(at) {
+            Some(&value) => Ok(Accessed {
+                first: 0x100 + offset as u32,
+                value,
+                read: true,
+            }),
+            None => Err(NoAccess::RepliesEnded),
+        },
         Due::Write(offset, value) => Ok(Accessed {
             first: offset as u32,
             value,
@@ -266,7 +264,9 @@ fn put(log: &mut [u32], at: usize, first: u32, value: u32) {
     log[at + 1] = value;
 }
 
-// One access of an operation that is going on, or none, where the frame of its transfer is at hand.
+// One access of an operation that is going on, or none, where the frame of its transfer is at hand. Data,
+// buffer, log, replies and the place among them are handed on one by one, in all of this file: callers lend each
+// by itself, and a clause speaks of what becomes of each.
 // requires { (frame ≡ frame_of op.now.job op.now.place) × (op.now.status ≡ Going) }
 fn pass(
     op: &Op,
@@ -388,5 +388,5 @@ pub fn counted(op: Op) -> usize {
 
 // Whether an operation erases a list of sectors, which it is lent as its data.
 pub fn erases_list(op: Op) -> bool {
-    matches!(op.job.script.sequel, Sequel::Sectors)
+    op.job.script.sequel == Sequel::Sectors
 }

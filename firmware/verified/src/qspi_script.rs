@@ -96,7 +96,7 @@ pub enum Sequel {
 }
 
 // What comes after what, where calls differ. `erasing` picks the error bit. It is told by values, not by
-// closures: an operation is a plain value that a caller may copy and keep.
+// closures: an operation is copied and kept by callers, and clauses compare whole ones (`result ≡ step_of ..`).
 #[derive(Clone, Copy, Debug, PartialEq, Eq)]
 pub struct Script {
     pub after_enable: Stage,
@@ -116,7 +116,8 @@ pub struct Lent {
     pub log: usize,
 }
 
-// What `new` and `set_write_protection` are asked for.
+// What `new` and `set_write_protection` are asked for. `Purpose` says which of the two it is; definitions
+// `configured` and `protecting` take the whole.
 #[derive(Clone, Copy, Debug, PartialEq, Eq)]
 pub struct Wanted {
     pub quad: bool,
@@ -132,7 +133,8 @@ pub struct Reading {
     pub dummy: bool,
 }
 
-// A call that sends nothing, the word that it writes, and the SLCR clock word that `initialize` gives.
+// A call that sends nothing, the word that it writes, and the SLCR clock word that `initialize` gives: beside
+// `Gives::Clock` and not in it, as definition `values_of` takes the two apart.
 #[derive(Clone, Copy, Debug, PartialEq, Eq)]
 pub struct LowLevel {
     pub sequence: Sequence,
@@ -207,7 +209,8 @@ fn program_frame(chunk: u8) -> Frame {
     data_frame(prefill(bytes / 4), bytes + 4)
 }
 
-// The sector of a list after those finished. A list is lent as data, a byte a sector: its number.
+// The sector of a list after those finished. A list is lent as data, a byte a sector: its number. Past its end
+// 0, as definition `listed_sector` says.
 fn listed_sector(data: &[u8], done: usize) -> u32 {
     match data.get(done) {
         Some(number) => limits::sector_start(*number),
@@ -215,7 +218,7 @@ fn listed_sector(data: &[u8], done: usize) -> u32 {
     }
 }
 
-// Four bytes of the data, low byte first; past its end 0.
+// Four bytes of the data, low byte first; past its end 0, as definition `data_word` says.
 fn data_word(data: &[u8], at: u64) -> u32 {
     if data.len() as u64 <= at {
         return 0;
@@ -275,7 +278,8 @@ impl Place {
         }
     }
 
-    // The words after the first: `program` sends its data, the long id and the reads send zeros.
+    // The words after the first: `program` sends its data, the long id and the reads send zeros. The other
+    // stages have none: 0 by definition `further_at`.
     fn further_word(self, index: u32, data: &[u8]) -> u32 {
         if self.stage == Stage::Program {
             data_word(data, (self.done as u64).wrapping_add(index as u64 * 4))
@@ -367,7 +371,7 @@ impl Job {
         }
     }
 
-    // The command word of a stage.
+    // The command word of a stage; 0 where it sends none, by definition `first_at`.
     fn first_word(self, place: Place, data: &[u8]) -> u32 {
         match place.stage {
             Stage::Enable => words::command_only(RegisterId::WriteEnable),

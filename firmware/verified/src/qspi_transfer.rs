@@ -37,7 +37,7 @@ pub enum Phase {
 
 // The size of a transfer: its TX register, how many words follow the first, how many bytes of replies
 // are taken, and whether a reply is taken after two status reads in a row. For `Registers`, `words` is
-// how many accesses follow the first.
+// how many accesses follow the first: it bounds `sent` in either case.
 #[derive(Clone, Copy, Debug, PartialEq, Eq)]
 pub struct Frame {
     pub port: u8,

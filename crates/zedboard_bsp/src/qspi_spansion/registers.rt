@@ -39,7 +39,8 @@ pub fn configured_sr(clear: bool, sr: u8) -> u8
     }
 }
 
-// Whether something that is asked for is not so yet.
+// Whether something that is asked for is not so yet. `cr` is before `sr`, as `new` reads them; in `words` `sr` is
+// first, as they stand in the word.
 pub fn update_needed(quad: bool, latency: Option<u8>, clear: bool, cr: u8, sr: u8) -> bool
     ensures needed { result ≡ spec.update_needed quad (is_some latency) (unwrap_or latency 0) clear cr sr }
 {

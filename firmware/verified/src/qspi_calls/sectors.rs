@@ -8,7 +8,8 @@ use crate::zedboard_bsp::qspi_spansion::LONGEST_LIST;
 use crate::zedboard_bsp::qspi_spansion::SECTOR_SIZE;
 use crate::zedboard_bsp::qspi_spansion::limits;
 
-// What a sector is refused for: rule 1, then rule 2. One that meets neither goes on.
+// What a sector is refused for: rule 1, then rule 2. One that meets neither goes on: `Going` and no `Option`, as
+// clause `status` says, and as the starts hand it on for one sector.
 pub fn sector_status(addr: u32) -> Status {
     if limits::out_of_range(addr, SECTOR_SIZE) {
         Status::OutOfRange
@@ -21,12 +22,8 @@ pub fn sector_status(addr: u32) -> Status {
 
 // The first place that meets rule 1 or 2.
 pub fn first_refused(list: &[u32]) -> Option<usize> {
-    for (at, &addr) in list.iter().enumerate() {
-        if !qspi_operation::is_going(sector_status(addr)) {
-            return Some(at);
-        }
-    }
-    None
+    list.iter()
+        .position(|&addr| !qspi_operation::is_going(sector_status(addr)))
 }
 
 fn is_among(earlier: &[u32], addr: u32) -> bool {
@@ -43,10 +40,10 @@ pub fn first_repeat(list: &[u32]) -> Option<usize> {
     None
 }
 
-// The list as an operation is lent it, a byte a sector: its number. A call that is not refused names no
-// sector behind these.
-pub fn numbered(list: &[u32]) -> [u8; 256] {
-    let mut numbers = [0u8; 256];
+// The list as an operation is lent it, a byte a sector: its number. There is no heap on the board, so there is
+// room for the longest. A call that is not refused names no sector behind these.
+pub fn numbered(list: &[u32]) -> [u8; LONGEST_LIST] {
+    let mut numbers = [0u8; LONGEST_LIST];
     let count = list.len().min(LONGEST_LIST);
     for (at, &addr) in list[..count].iter().enumerate() {
         numbers[at] = limits::sector_number(addr);

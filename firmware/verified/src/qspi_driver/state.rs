@@ -12,6 +12,7 @@ use crate::qspi_operation::Stepped;
 use crate::qspi_script::Gives;
 use crate::qspi_script::Status;
 use crate::qspi_transfer::Due;
+use crate::zedboard_bsp::qspi_spansion::LONGEST_LIST;
 use crate::zedboard_bsp::qspi_spansion::device_id::BaseDeviceId;
 use crate::zedboard_bsp::qspi_spansion::device_id::ExtendedDeviceId;
 use crate::zedboard_bsp::qspi_spansion::words;
@@ -26,7 +27,7 @@ pub struct State {
 // heap on the board, so there is room for the longest; how many they are says the operation.
 #[derive(Clone, Copy, Debug, PartialEq, Eq)]
 pub struct SectorList {
-    pub numbers: [u8; 256],
+    pub numbers: [u8; LONGEST_LIST],
 }
 
 // Why a start begins nothing: nothing is changed then.
@@ -100,7 +101,8 @@ impl Progress {
         self.clock
     }
 
-    // The place, from 0, of the entry that a list of sectors was refused for; 0 for any other answer.
+    // The place, from 0, of the entry that a list of sectors was refused for; 0 for any other answer, and no
+    // `Option`: clause `place` says 0 of those, and `gives` tells which answers have a place.
     pub fn place(self) -> u8 {
         match self.gives {
             Gives::Place(at) => at,
@@ -149,7 +151,8 @@ pub fn begin_list(state: State, kept: SectorList, list: &[u32], log: usize) -> L
 }
 
 // What the operation at hand is lent: a list of sectors its own copy, as far as it is long, and no other
-// data with it; any other operation the caller's data.
+// data with it; any other operation the caller's data. Three functions take state, list and data one by one:
+// a struct of them would be made for each call, and taken apart in it.
 fn lent_to<'a>(state: State, list: &'a [u8], data: &'a [u8]) -> &'a [u8] {
     if !qspi_operation::erases_list(state.op) {
         return data;

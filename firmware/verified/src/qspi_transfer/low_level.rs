@@ -89,7 +89,8 @@ fn disable_due(at: u32, config: u32) -> Due {
     }
 }
 
-// The access at a place of a call, by the config word last read and the call's own word.
+// The access at a place of a call, by the config word last read and the call's own word. They are no struct: the
+// definitions take them one by one, and a sequence is handed only those that it uses.
 pub fn due(sequence: Sequence, at: u32, config: u32, word: u32) -> Due {
     match sequence {
         Sequence::Initialize | Sequence::InitializeWithLoopback => initialize_due(at, word),

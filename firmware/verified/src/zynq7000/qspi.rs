@@ -57,8 +57,8 @@ pub enum Register {
 }
 
 impl Register {
-    // The offsets stand once, as the constants that the crates above name; as discriminants they would have
-    // to be cast.
+    // A match and no discriminants: each offset stands once, as the constant of `u8` that the crates above name,
+    // and a discriminant would repeat its number or cast it.
     pub fn offset(self) -> u8 {
         match self {
             Register::Config => CONFIG,
@@ -91,18 +91,9 @@ pub enum BaudRateDivisor {
 }
 
 impl BaudRateDivisor {
-    // What the reference clock is divided by: a table of its own, as its codes are.
+    // What the reference clock is divided by.
     pub fn divisor(self) -> u32 {
-        match self {
-            BaudRateDivisor::_2 => 2,
-            BaudRateDivisor::_4 => 4,
-            BaudRateDivisor::_8 => 8,
-            BaudRateDivisor::_16 => 16,
-            BaudRateDivisor::_32 => 32,
-            BaudRateDivisor::_64 => 64,
-            BaudRateDivisor::_128 => 128,
-            BaudRateDivisor::_256 => 256,
-        }
+        2 << self as u32
     }
 
     // The code of the config register's field.

@@ -13,6 +13,7 @@ pub enum MemoryInterfaceType {
     _256Mb = 0x02,
 }
 
+// The three conversions have a table each, and share nothing but the refusal.
 impl TryFrom<u8> for MemoryInterfaceType {
     type Error = UnknownCode;
 

@@ -30,7 +30,8 @@ pub fn configured_sr(clear: bool, sr: u8) -> u8 {
     }
 }
 
-// Whether something that is asked for is not so yet.
+// Whether something that is asked for is not so yet. `cr` is before `sr`, as `new` reads them; in `words` `sr` is
+// first, as they stand in the word.
 pub fn update_needed(quad: bool, latency: Option<u8>, clear: bool, cr: u8, sr: u8) -> bool {
     (quad && cr / 2 % 2 == 0)
         || latency.is_some_and(|latency| cr / 64 % 4 != latency % 4)
