@@ -17,6 +17,7 @@
 use crate::cut::{CUTS, Cut};
 use crate::memory::Memory;
 use crate::record::{Case, Shows, Trial};
+use printing::tolerant::{Tolerant, ended};
 use qspi_operation::Op;
 use std::alloc::{AllocError, Global};
 use std::io::{Read, Result};
@@ -37,7 +38,8 @@ const TOO_LONG: usize = 8192;
 
 fn main(rt: HostRuntime) -> Result<()> {
     let mut input = Vec::new(rt.alloc());
-    rt.reader().take(TOO_LONG as u64).read_to_end(&mut input)?;
+    ended(rt.reader().take(TOO_LONG as u64).read_to_end(&mut input))?;
+    let rt = (Tolerant::new(&rt), rt.alloc());
     if input.len() < TOO_LONG {
         print_cases(&rt, &input)
     } else {

@@ -3,6 +3,7 @@
 // the stored output.
 #![tactic(auto)]
 
+use printing::tolerant::Tolerant;
 use std::fmt;
 use std::io::Result;
 use zynq7000::slcr::clocks::SrcSelIo;
@@ -286,6 +287,7 @@ fn quotients(rt: &impl Print) -> Result<()> {
 }
 
 fn main(rt: HostRuntime) -> Result<()> {
+    let rt = Tolerant::new(&rt);
     station(&rt)?;
     rule_6(&rt)?;
     rule_7(&rt)?;

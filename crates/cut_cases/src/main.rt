@@ -20,6 +20,7 @@
 ghost use Rattle.std.specs.Prelude.{◌<◌, length, IfOk};
 
 use fault::Fault;
+use printing::tolerant::{Tolerant, ended};
 use record::Call;
 use std::io;
 use std::io::Read;
@@ -42,8 +43,9 @@ const UNTOUCHED: u32 = 0xA5A5_5A5A;
 
 fn main(rt: HostRuntime) -> io::Result<()> {
     let mut input = Vec::new(rt.alloc());
-    let len = rt.stdin().take(TOO_LONG as u64).read_to_end(&mut input)?;
-    if len == TOO_LONG {
+    ended(rt.stdin().take(TOO_LONG as u64).read_to_end(&mut input))?;
+    let rt = (Tolerant::new(&rt), rt.alloc());
+    if input.len() == TOO_LONG {
         return print::bad(&rt, 0);
     }
     rows(&rt, input.as_slice())

@@ -25,7 +25,14 @@ pub fn inputs(rt: &impl Print) -> io::Result<()> {
     )
 }
 
-pub fn interface(rt: &impl Print, target: u32) -> io::Result<()> {
+pub fn interfaces(rt: &impl Print, targets: &[u32]) -> io::Result<()> {
+    for target in targets {
+        interface(rt, *target)?;
+    }
+    Ok(())
+}
+
+fn interface(rt: &impl Print, target: u32) -> io::Result<()> {
     print!(rt; "interface target {target}: ")?;
     show(
         rt,
@@ -34,7 +41,14 @@ pub fn interface(rt: &impl Print, target: u32) -> io::Result<()> {
     )
 }
 
-pub fn loopback(rt: &impl Print, target: u32) -> io::Result<()> {
+pub fn loopbacks(rt: &impl Print, targets: &[u32]) -> io::Result<()> {
+    for target in targets {
+        loopback(rt, *target)?;
+    }
+    Ok(())
+}
+
+fn loopback(rt: &impl Print, target: u32) -> io::Result<()> {
     print!(rt; "loopback target {target}: ")?;
     show(
         rt,

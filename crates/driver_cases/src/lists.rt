@@ -104,18 +104,10 @@ pub fn cases(rt: &(impl Print + AllocGlobal)) -> io::Result<()> {
     all_plain(rt, &REFUSED_BESIDE_REPEATS)?;
     all_plain(rt, &FAR_OUT_OF_RANGE)?;
     all_plain(rt, &REPEATED)?;
-    for (length, place, addr) in LONG {
-        let mut list = memory::scattered();
-        memory::set(&mut list, place, addr);
-        erase(rt, front(&list, length), PLAIN)?;
-    }
+    all_long(rt)?;
     all_short_of_log(rt)?;
-    for (sector, status) in STATUSES {
-        erase(rt, &THREE, showing(sector, status))?;
-    }
-    for sector in 0..3 {
-        ends(rt, sector)?;
-    }
+    all_statuses(rt)?;
+    all_ends(rt)?;
     not_begun(rt)
 }
 
@@ -126,10 +118,33 @@ fn all_plain(rt: &(impl Print + AllocGlobal), lists: &[&[u32]]) -> io::Result<()
     Ok(())
 }
 
+fn all_long(rt: &(impl Print + AllocGlobal)) -> io::Result<()> {
+    for (length, place, addr) in LONG {
+        let mut list = memory::scattered();
+        memory::set(&mut list, place, addr);
+        erase(rt, front(&list, length), PLAIN)?;
+    }
+    Ok(())
+}
+
 // All sectors on a log that seven fill.
 fn all_short_of_log(rt: &(impl Print + AllocGlobal)) -> io::Result<()> {
     let list = memory::scattered();
     erase(rt, front(&list, 255), Bounds { log: 512, ..PLAIN })
+}
+
+fn all_statuses(rt: &(impl Print + AllocGlobal)) -> io::Result<()> {
+    for (sector, status) in STATUSES {
+        erase(rt, &THREE, showing(sector, status))?;
+    }
+    Ok(())
+}
+
+fn all_ends(rt: &(impl Print + AllocGlobal)) -> io::Result<()> {
+    for sector in 0..3 {
+        ends(rt, sector)?;
+    }
+    Ok(())
 }
 
 // The third transfer of a sector reads the status: its fifth reply has it.

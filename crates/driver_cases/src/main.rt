@@ -7,6 +7,7 @@
 use crate::call::Call;
 use crate::memory::{BUFFER, LOG};
 use crate::print::Answered;
+use printing::tolerant::Tolerant;
 use qspi_driver::{QspiSpansionS25Fl256SIoMode, state};
 use std::io;
 use trial_calls::memory::{UNTOUCHED, UNTOUCHED_BYTE, front};
@@ -70,22 +71,27 @@ const ARRAY_CASES: [Call; 15] = [
     Call::EmptyRead { addr: 0x0000_0102 },
 ];
 
+const IO_MODES: [Call; 2] = [
+    Call::IoMode { dual_flash: false },
+    Call::IoMode { dual_flash: true },
+];
+
 fn main(rt: HostRuntime) -> io::Result<()> {
-    for call in ARRAY_CASES {
-        case(&rt, call)?;
-    }
+    let rt = (Tolerant::new(&rt), rt.alloc());
+    cases(&rt, &ARRAY_CASES)?;
     clock::inputs(&rt)?;
-    for target in [5000000, 2500000, 781250, 781249] {
-        clock::interface(&rt, target)?;
-    }
-    for target in [7936508, 7936507] {
-        clock::loopback(&rt, target)?;
-    }
-    for dual_flash in [false, true] {
-        case(&rt, Call::IoMode { dual_flash })?;
-    }
+    clock::interfaces(&rt, &[5000000, 2500000, 781250, 781249])?;
+    clock::loopbacks(&rt, &[7936508, 7936507])?;
+    cases(&rt, &IO_MODES)?;
     erase_while_busy(&rt, 0x0003_0000)?;
     lists::cases(&rt)
+}
+
+fn cases(rt: &(impl Print + AllocGlobal), calls: &[Call]) -> io::Result<()> {
+    for call in calls {
+        case(rt, *call)?;
+    }
+    Ok(())
 }
 
 fn case(rt: &(impl Print + AllocGlobal), call: Call) -> io::Result<()> {

@@ -3,6 +3,7 @@
 #![tactic(auto)]
 
 use access_log::BadRecord;
+use printing::tolerant::Tolerant;
 use std::io::{Result, Write, writer};
 
 // Three records: a write, a read, and a last one whose first word is no offset.
@@ -29,28 +30,56 @@ const NUMBERS: [u64; 6] = [
 // First words 0 to 20F, some larger ones, the log cut at every byte, the numbers, the lengths around a
 // buffer, the places of words, and every front of four records with a refused one at each place.
 fn main(rt: HostRuntime) -> Result<()> {
-    for first in 0..0x210u32 {
-        record(&rt, first)?;
-    }
-    for first in LARGE {
-        record(&rt, first)?;
-    }
-    for len in 0..=LOG.len() {
-        cut(&rt, len)?;
-    }
-    for first in NUMBERS {
-        numbered(&rt, first)?;
-    }
-    for len in 4088..4105usize {
-        measure(&rt, len)?;
-    }
-    for len in 0..4usize {
-        for at in [0, 1, 2, usize::MAX] {
-            place(&rt, len, at)?;
-        }
-    }
+    let rt = Tolerant::new(&rt);
+    records(&rt)?;
+    cuts(&rt)?;
+    numbers(&rt)?;
+    measures(&rt)?;
+    places(&rt)?;
     leading(&rt, 0x102)?;
     leading(&rt, 0x200)
+}
+
+fn records(rt: &impl Print) -> Result<()> {
+    for first in (0..0x210u32).chain(LARGE) {
+        record(rt, first)?;
+    }
+    Ok(())
+}
+
+fn cuts(rt: &impl Print) -> Result<()> {
+    for len in 0..=LOG.len() {
+        cut(rt, len)?;
+    }
+    Ok(())
+}
+
+fn numbers(rt: &impl Print) -> Result<()> {
+    for first in NUMBERS {
+        numbered(rt, first)?;
+    }
+    Ok(())
+}
+
+fn measures(rt: &impl Print) -> Result<()> {
+    for len in 4088..4105usize {
+        measure(rt, len)?;
+    }
+    Ok(())
+}
+
+fn places(rt: &impl Print) -> Result<()> {
+    for len in 0..4usize {
+        places_among(rt, len)?;
+    }
+    Ok(())
+}
+
+fn places_among(rt: &impl Print, len: usize) -> Result<()> {
+    for at in [0, 1, 2, usize::MAX] {
+        place(rt, len, at)?;
+    }
+    Ok(())
 }
 
 // One record with its own first word as value, upside down.
@@ -110,13 +139,16 @@ fn refused(at: usize, first: u32) -> [u32; 8] {
 fn leading(rt: &impl Print, first: u32) -> Result<()> {
     for at in 0..5usize {
         println!(rt; "refused at {at}")?;
-        let words = refused(at, first);
-        for len in 0..8usize {
-            print!(rt; "{} ", access_log::accesses(front(&words, len)))?;
-        }
-        println!(rt; "{}", access_log::accesses(&words))?;
+        counts(rt, &refused(at, first))?;
     }
     Ok(())
+}
+
+fn counts(rt: &impl Print, words: &[u32]) -> Result<()> {
+    for len in 0..8usize {
+        print!(rt; "{} ", access_log::accesses(front(words, len)))?;
+    }
+    println!(rt; "{}", access_log::accesses(words))
 }
 
 fn show(rt: &impl Print, log: &[u8], first: u64) -> Result<()> {

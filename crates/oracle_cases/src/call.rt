@@ -1,4 +1,6 @@
 // A call of each kind on the port.
+ghost use Rattle.std.specs.Prelude.{◌≤◌};
+
 use crate::ended::Ended;
 use crate::fault::Fault;
 use crate::kind::{Call, Kind};
@@ -59,10 +61,12 @@ fn calculate_with_loopback(alloc: Global, record: Record<'_>) -> Result<Ended, F
     Ok(Ended::clock(alloc, config)?)
 }
 
-// Words of the list that stands before the replies.
-fn listed(call: Call, record: Record<'_>) -> u16 {
+// Words of the list that stands before the replies: one kind has one.
+fn listed(call: Call, record: Record<'_>) -> usize
+    ensures most { result ≤ 768 }
+{
     match call {
-        Call::EraseSectors => record.length,
+        Call::EraseSectors => usize::from(record.length).min(LENGTH),
         _ => 0,
     }
 }
@@ -75,7 +79,7 @@ fn lent(
     buffer: &mut [u8],
     log: &mut [u32],
 ) -> Result<Ended, Fault> {
-    let listed = usize::from(listed(call, record)) * 4;
+    let listed = listed(call, record) * 4;
     let (list, places) = record.body.split_at_checked(listed).ok_or(Fault::Bad)?;
     if REPLIES < places.len() {
         return Err(Fault::Bad);

@@ -25,6 +25,7 @@
 ghost use Rattle.std.specs.Prelude.{◌<◌, length, IfOk};
 
 use fault::Fault;
+use printing::tolerant::{Tolerant, ended};
 use record::Record;
 use std::alloc::Global;
 use std::io;
@@ -50,8 +51,9 @@ const UNTOUCHED_BYTE: u8 = 0x5A;
 
 fn main(rt: HostRuntime) -> io::Result<()> {
     let mut input = Vec::new(rt.alloc());
-    let len = rt.stdin().take(TOO_LONG as u64).read_to_end(&mut input)?;
-    if len == TOO_LONG {
+    ended(rt.stdin().take(TOO_LONG as u64).read_to_end(&mut input))?;
+    let rt = (Tolerant::new(&rt), rt.alloc());
+    if input.len() == TOO_LONG {
         return bad(&rt, 0);
     }
     list(&rt, input.as_slice())

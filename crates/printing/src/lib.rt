@@ -1,10 +1,12 @@
-// Answers as the programs print them.
+// Answers as the programs print them, and their standard input and output.
 #![tactic(auto)]
 
 ghost use Rattle.std.specs.Prelude.{◌≡◌, Some};
 ghost use Rattle.printing.specs.Answer.{answer_name, answer_text};
 
 use std::fmt;
+
+pub mod tolerant;
 
 // An answer by the papers' number, which prints with its name; 0 is done. It is a number, and no enum: the
 // answers come from several, `Status`, the clock's errors and others, and one that the papers lack prints too.

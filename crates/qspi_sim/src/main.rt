@@ -2,8 +2,6 @@
 // standard input, the logs and what the flash then holds on standard output (crates/sim_console).
 #![tactic(auto)]
 
-use std::io;
-
-fn main(rt: HostRuntime) -> io::Result<()> {
+fn main(rt: HostRuntime) {
     sim_console::simulate_input(&rt)
 }

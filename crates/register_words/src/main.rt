@@ -3,6 +3,7 @@
 // answer (`chip`).
 #![tactic(auto)]
 
+use printing::tolerant::Tolerant;
 use std::io::Result;
 use zedboard_bsp::qspi_spansion::{
     ConfigRegister1, QSPI_DEV_COMBINATION_REV_F, RegisterId, StatusRegister1,
@@ -55,6 +56,14 @@ const BAUD_RATES: [BaudRateConfig; 9] = [
     BaudRateConfig::WithLoopback,
 ];
 
+// Phase and polarity of each mode.
+const PHASES_AND_POLARITIES: [(bool, bool); 4] = [
+    (false, false),
+    (false, true),
+    (true, false),
+    (true, true),
+];
+
 // Divisors around 0 and 63, each with a source.
 const CLOCKS: [(u8, SrcSelIo); 7] = [
     (0, SrcSelIo::IoPll),
@@ -82,6 +91,7 @@ const COMMANDS: [RegisterId; 12] = [
 ];
 
 fn main(rt: HostRuntime) -> Result<()> {
+    let rt = Tolerant::new(&rt);
     words(
         &rt,
         "register",
@@ -163,13 +173,15 @@ fn baud_rates(rt: &impl Print) -> Result<()> {
             ref_clk_div: 5,
             baud_rate_config: *baud_rate_config,
         };
-        for phase in [false, true] {
-            for polarity in [false, true] {
-                let mode = u8::from(phase) * 2 + u8::from(polarity);
-                print!(rt; "baud {i} mode {mode}")?;
-                initialize(rt, clock_config, phase, polarity)?;
-            }
-        }
+        modes(rt, i, clock_config)?;
+    }
+    Ok(())
+}
+
+fn modes(rt: &impl Print, i: usize, clock_config: ClockConfig) -> Result<()> {
+    for (mode, (phase, polarity)) in PHASES_AND_POLARITIES.iter().enumerate() {
+        print!(rt; "baud {i} mode {mode}")?;
+        initialize(rt, clock_config, *phase, *polarity)?;
     }
     Ok(())
 }

@@ -6,6 +6,7 @@
 use crate::fault::{Fault, Problem};
 use crate::request::{CallRow, Cut};
 use crate::run::Came;
+use printing::tolerant::{Tolerant, ended};
 use sim_report::run::print_refused;
 use std::io;
 use std::io::Read;
@@ -25,16 +26,21 @@ mod words;
 
 const INPUT: usize = 32768;
 
-pub fn simulate_input<R: Input + Print + AllocGlobal>(rt: &R) -> io::Result<()> {
+pub fn simulate_input<R: Input + Print + AllocGlobal>(rt: &R) {
     let mut input = Vec::new(rt.alloc());
-    rt.reader().take(INPUT as u64).read_to_end(&mut input)?;
-    if input.len() < INPUT {
-        simulate_text(rt, input.as_slice())
+    let read = ended(rt.reader().take(INPUT as u64).read_to_end(&mut input));
+    let input = input.as_slice();
+    if read.is_err() {
+        print_fault(rt, Fault::new(last_line(input), None, Problem::OutOfMemory))
+    } else if input.len() < INPUT {
+        simulate_text(rt, input)
     } else {
-        let line = last_line(input.as_slice());
-        let fault = Fault::new(line, None, Problem::LongInput);
-        println!(rt; "{fault}")
+        print_fault(rt, Fault::new(last_line(input), None, Problem::LongInput))
     }
+}
+
+fn print_fault(rt: &impl Print, fault: Fault) {
+    let _ = println!(rt; "{fault}");
 }
 
 // The number of the last line.
@@ -42,11 +48,15 @@ fn last_line(input: &[u8]) -> usize {
     1 + input.iter().filter(|byte| **byte == b'\n').count()
 }
 
-// Requests that are at hand as text.
-pub fn simulate_text<R: Print + AllocGlobal>(rt: &R, input: &[u8]) -> io::Result<()> {
-    match reader::read(rt.alloc(), input) {
-        Ok(calls) => simulate(rt, &calls),
-        Err(fault) => println!(rt; "{fault}"),
+// Requests that are at hand as text. Nothing fails but for memory that runs out, which is told in one line too.
+pub fn simulate_text<R: Print + AllocGlobal>(rt: &R, input: &[u8]) {
+    let calls = match reader::read(rt.alloc(), input) {
+        Ok(calls) => calls,
+        Err(fault) => return print_fault(rt, fault),
+    };
+    let tolerant = (Tolerant::new(rt), rt.alloc());
+    if simulate(&tolerant, &calls).is_err() {
+        print_fault(rt, Fault::new(last_line(input), None, Problem::OutOfMemory))
     }
 }
 

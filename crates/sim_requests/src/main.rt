@@ -5,6 +5,7 @@
 ghost use Rattle.std.specs.Prelude.{length};
 ghost use Rattle.std.specs.Iterator.{at_most};
 
+use printing::tolerant::{Tolerant, ended};
 use std::io;
 use std::io::Read;
 
@@ -14,13 +15,14 @@ const APART: &[u8] = b"----\n";
 
 fn main(rt: HostRuntime) -> io::Result<()> {
     let mut input = Vec::new(rt.alloc());
-    rt.reader().take(INPUT).read_to_end(&mut input)?;
+    ended(rt.reader().take(INPUT).read_to_end(&mut input))?;
+    let rt = (Tolerant::new(&rt), rt.alloc());
     let inputs = Inputs {
         rest: input.as_slice(),
     };
     for (number, text) in (1..=usize::MAX).zip(inputs) {
         println!(rt; "---- {number}")?;
-        sim_console::simulate_text(&rt, text)?;
+        sim_console::simulate_text(&rt, text);
     }
     Ok(())
 }

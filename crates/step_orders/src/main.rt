@@ -10,6 +10,7 @@
 
 use crate::order::Order;
 use crate::tally::{Differs, Tally};
+use printing::tolerant::Tolerant;
 use std::alloc::{AllocError, Global};
 use std::io;
 use trial_calls::call::{CALLS, Call};
@@ -32,8 +33,9 @@ mod walk;
 const ORDERS: usize = 400;
 
 fn main(rt: HostRuntime) -> io::Result<()> {
+    let output = Tolerant::new(&rt);
     for call in CALLS {
-        orders(&rt, rt.alloc(), call)?;
+        orders(&output, rt.alloc(), call)?;
     }
     Ok(())
 }

@@ -1,6 +1,7 @@
 // Runs write enable on document 01's six replies and prints the log, one line an access.
 #![tactic(auto)]
 
+use printing::tolerant::Tolerant;
 use qspi_calls::start;
 use std::io::{Result, Write, writer};
 
@@ -12,7 +13,7 @@ fn main(rt: HostRuntime) -> Result<()> {
     let op = start::write_enable(log.len());
     let ended = qspi_operation::run(op, &[], &mut [], &mut log, &REPLIES);
     let used = ended.op.used.min(log.len());
-    print(&rt, &log[..used])
+    print(&Tolerant::new(&rt), &log[..used])
 }
 
 fn print(rt: &impl Print, log: &[u32]) -> Result<()> {
