@@ -15,8 +15,8 @@ use Rattle.qspi_operation.specs.declared.Op.{Op}
 use Rattle.qspi_operation.specs.declared.Passed.{Passed}
 use Rattle.qspi_operation.specs.declared.Stepped.{Stepped}
 use Rattle.qspi_operation.specs.Store.{stored}
-use Rattle.qspi_operation.specs.Step.{Verdict, Ended, is_going, choose, going, verdict_of, moved_by, counted, written, step_of, log_of, buffer_of, reply_of}
-use Rattle.qspi_operation.specs.Pass.{verdict_on, refused, stands_for, left, Onward}
+use Rattle.qspi_operation.specs.Step.{Verdict, Ended, is_going, choose, going, verdict_of, moved_by, counted, written, reply_of}
+use Rattle.qspi_operation.specs.Pass.{verdict_on, stands_for, left, Onward}
 use Rattle.qspi_operation.specs.Run.{run_at, fuel}
 use Rattle.qspi_operation.proofs.Runs.{Turn, turn}
 use Rattle.qspi_operation.proofs.Verdicts.{no, Promised, by_verdict, by_access}
@@ -112,6 +112,32 @@ module _ (o : Op) (bytes rs buffer log : List ℕ) (o₁ : Op) (buffer₁ log₁
   goes x w p e =
       let t : Turn true Going o₁ bytes rs buffer₁ log₁ (moved_by (Some w) o₁ x.used x.replies) buffer₂ log₂ = turns (moved_by (Some w) o₁ x.used x.replies) (subst (λ (z : Option Wire). Steps (moved_by z o₁ x.used x.replies)) e p) in
       record { way = record { same = y.same ∙ t.same; most = omega (arith, y.most, t.fewer); long = t.long ∙ y.long; wide = t.wide ∙ y.wide }; less = t.fewer }
+
+-- a transfer at hand: it has come so far, and of its operation only the wire and the used counts have moved
+pub record Underway (o : Op) (bytes rs buffer log : List ℕ) (o₁ : Op) (buffer₁ log₁ : List ℕ) : Type 0 where
+  pub way : Way o bytes rs buffer log o₁ buffer₁ log₁
+  pub kept : o₁ ≡ at o o₁.wire o₁.used o₁.replies
+
+pub sets_out : (o : Op) (bytes rs buffer log : List ℕ) → o.status ≡ Going → Underway o bytes rs buffer log o buffer log
+sets_out o bytes rs buffer log g =
+    record { way = record { same = refl; most = omega arith; long = refl; wide = refl }; kept = ap (λ (z : Status). record { job = o.job; place = o.place; wire = o.wire; used = o.used; replies = o.replies; status = z }) g }
+
+-- the same with another wire and other counts
+abbrev pub moved_to : Op → Wire → ℕ → ℕ → Op
+moved_to o w used replies = record { job = o.job; place = o.place; wire = w; used = used; replies = replies; status = o.status }
+
+module _ (o : Op) (bytes rs buffer log : List ℕ) (o₁ : Op) (buffer₁ log₁ : List ℕ) (y : Underway o bytes rs buffer log o₁ buffer₁ log₁) (buffer₂ log₂ : List ℕ) (x : Passed) (w : Wire) (p : Promised o₁ bytes buffer₁ log₁ (reply_of rs o₁.replies) (stands_for (Ok x) o₁) log₂ buffer₂) (e : x.wire ≡ Some w) where
+  there : at o₁ w x.used x.replies ≡ moved_to o₁ w x.used x.replies
+  there = ap (λ (z : Op). record { job = o₁.job; place = o₁.place; wire = w; used = x.used; replies = x.replies; status = z.status }) (sym y.kept)
+
+  pub goes_on : Underway o bytes rs buffer log (moved_to o₁ w x.used x.replies) buffer₂ log₂
+  goes_on = record {
+    way = subst (λ (z : Op). Way o bytes rs buffer log z buffer₂ log₂) there (goes o bytes rs buffer log o₁ buffer₁ log₁ y.way buffer₂ log₂ x w p e).way;
+    kept = ap (λ (z : Op). moved_to z w x.used x.replies) y.kept;
+  }
+
+  pub less_on : fuel (moved_to o₁ w x.used x.replies) log₂ < fuel o₁ log₁
+  less_on = subst (λ (z : Op). fuel z log₂ < fuel o₁ log₁) there (goes o bytes rs buffer log o₁ buffer₁ log₁ y.way buffer₂ log₂ x w p e).less
 
 -- ---- a turn of the run's loop
 

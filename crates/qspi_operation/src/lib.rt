@@ -375,42 +375,25 @@ pub fn step(op: Op, data: &[u8], buffer: &mut [u8], log: &mut [u32], reply: Opti
     }
 }
 
-// The accesses of the transfer at hand, to its last one or to where the run stops. Only its wire and the
-// used counts go round the loop, and field by field: a struct that is copied whole takes its padding along.
+// The accesses of the transfer at hand, to its last one or to where the run stops. Its wire and the used
+// counts change in place: an operation that is made anew in each turn takes its padding along.
 fn transfer(op: Op, data: &[u8], buffer: &mut [u8], log: &mut [u32], replies: &[u32]) -> Stepped
     requires { op.status ≡ Going }
     ensures onward { Onward op «data».now replies.now buffer.old log.old result buffer.new log.new }
 {
     let frame = op.job.frame(op.place);
-    let mut wire = op.wire;
-    let mut used = op.used;
-    let mut taken = op.replies;
+    let mut o = op;
     loop {
-        let o = Op {
-            wire,
-            used,
-            replies: taken,
-            status: Status::Going,
-            ..op
-        };
-        let passed = match pass(&o, frame, data, buffer, log, replies, taken) {
+        let passed = match pass(&o, frame, data, buffer, log, replies, o.replies) {
             Ok(passed) => passed,
             Err(why) => return o.refused(why),
         };
         let Some(next) = passed.wire else {
             return o.turned(passed.used, passed.replies);
         };
-        wire = Wire {
-            phase: next.phase,
-            config: next.config,
-            sent: next.sent,
-            read_index: next.read_index,
-            older: next.older,
-            old: next.old,
-            last: next.last,
-        };
-        used = passed.used;
-        taken = passed.replies;
+        o.wire = next;
+        o.used = passed.used;
+        o.replies = passed.replies;
     }
 }
 
