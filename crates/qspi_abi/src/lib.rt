@@ -295,7 +295,7 @@ impl From<Result<ClockConfig, ClockCalculationError>> for QspiClockConfig {
     }
 }
 
-pub fn qspi_calculate(
+pub extern "C" fn qspi_calculate(
     src_sel: u8,
     io_ref_clk: u32,
     arm_ref_clk: u32,
@@ -323,7 +323,7 @@ pub fn qspi_calculate(
     ))
 }
 
-pub fn qspi_calculate_with_loopback(
+pub extern "C" fn qspi_calculate_with_loopback(
     src_sel: u8,
     io_ref_clk: u32,
     arm_ref_clk: u32,
@@ -365,7 +365,11 @@ fn preset(micron: bool, operating_mode: InstructionCode, two_devices: bool) -> Q
     }
 }
 
-pub fn qspi_linear_mode_config(micron: bool, operating_mode: u8, two_devices: bool) -> QspiPreset
+pub extern "C" fn qspi_linear_mode_config(
+    micron: bool,
+    operating_mode: u8,
+    two_devices: bool,
+) -> QspiPreset
     ensures config { result ≡ numbers.linear_config (codes.preset_answer micron operating_mode two_devices) }
 {
     match codes::instruction(operating_mode) {
@@ -391,7 +395,7 @@ fn initialize(
     valued(op, replies, log)
 }
 
-pub fn qspi_initialize(
+pub extern "C" fn qspi_initialize(
     src_sel: u8,
     ref_clk_div: u8,
     loopback: bool,
@@ -415,7 +419,7 @@ pub fn qspi_initialize(
     }
 }
 
-pub fn qspi_new(
+pub extern "C" fn qspi_new(
     set_quad_bit_if_necessary: bool,
     set_latency: bool,
     latency: u8,
@@ -435,7 +439,11 @@ pub fn qspi_new(
     command(op, replies, log)
 }
 
-pub fn qspi_enable_linear_addressing(config: u32, replies: &[u32], log: &mut [u32]) -> QspiRan
+pub extern "C" fn qspi_enable_linear_addressing(
+    config: u32,
+    replies: &[u32],
+    log: &mut [u32],
+) -> QspiRan
     ensures ran { result ≡ numbers.ran (answered_of (called (call.enable_linear_addressing config) (length log.old / 2) replies.now)) }
     ensures logged { log.new ≡ logged_of (called (call.enable_linear_addressing config) (length log.old / 2) replies.now) log.old }
 {
@@ -443,7 +451,7 @@ pub fn qspi_enable_linear_addressing(config: u32, replies: &[u32], log: &mut [u3
     command(op, replies, log)
 }
 
-pub fn qspi_enable_io_mode(dual_flash: bool, replies: &[u32], log: &mut [u32]) -> QspiRan
+pub extern "C" fn qspi_enable_io_mode(dual_flash: bool, replies: &[u32], log: &mut [u32]) -> QspiRan
     ensures ran { result ≡ numbers.ran (answered_of (called (call.enable_io_mode dual_flash) (length log.old / 2) replies.now)) }
     ensures logged { log.new ≡ logged_of (called (call.enable_io_mode dual_flash) (length log.old / 2) replies.now) log.old }
 {
@@ -451,7 +459,7 @@ pub fn qspi_enable_io_mode(dual_flash: bool, replies: &[u32], log: &mut [u32]) -
     command(op, replies, log)
 }
 
-pub fn qspi_disable(replies: &[u32], log: &mut [u32]) -> QspiRan
+pub extern "C" fn qspi_disable(replies: &[u32], log: &mut [u32]) -> QspiRan
     ensures ran { result ≡ numbers.ran (answered_of (called call.disable (length log.old / 2) replies.now)) }
     ensures logged { log.new ≡ logged_of (called call.disable (length log.old / 2) replies.now) log.old }
 {
@@ -459,7 +467,11 @@ pub fn qspi_disable(replies: &[u32], log: &mut [u32]) -> QspiRan
     command(op, replies, log)
 }
 
-pub fn qspi_set_write_protection(protection: u8, replies: &[u32], log: &mut [u32]) -> QspiRan
+pub extern "C" fn qspi_set_write_protection(
+    protection: u8,
+    replies: &[u32],
+    log: &mut [u32],
+) -> QspiRan
     ensures ran { result ≡ numbers.ran (answered_of (called (call.set_write_protection protection) (length log.old / 2) replies.now)) }
     ensures logged { log.new ≡ logged_of (called (call.set_write_protection protection) (length log.old / 2) replies.now) log.old }
 {
@@ -467,7 +479,7 @@ pub fn qspi_set_write_protection(protection: u8, replies: &[u32], log: &mut [u32
     command(op, replies, log)
 }
 
-pub fn qspi_write_enable(replies: &[u32], log: &mut [u32]) -> QspiRan
+pub extern "C" fn qspi_write_enable(replies: &[u32], log: &mut [u32]) -> QspiRan
     ensures ran { result ≡ numbers.ran (answered_of (called call.write_enable (length log.old / 2) replies.now)) }
     ensures logged { log.new ≡ logged_of (called call.write_enable (length log.old / 2) replies.now) log.old }
 {
@@ -475,7 +487,7 @@ pub fn qspi_write_enable(replies: &[u32], log: &mut [u32]) -> QspiRan
     command(op, replies, log)
 }
 
-pub fn qspi_write_disable(replies: &[u32], log: &mut [u32]) -> QspiRan
+pub extern "C" fn qspi_write_disable(replies: &[u32], log: &mut [u32]) -> QspiRan
     ensures ran { result ≡ numbers.ran (answered_of (called call.write_disable (length log.old / 2) replies.now)) }
     ensures logged { log.new ≡ logged_of (called call.write_disable (length log.old / 2) replies.now) log.old }
 {
@@ -483,7 +495,7 @@ pub fn qspi_write_disable(replies: &[u32], log: &mut [u32]) -> QspiRan
     command(op, replies, log)
 }
 
-pub fn qspi_clear_status(replies: &[u32], log: &mut [u32]) -> QspiRan
+pub extern "C" fn qspi_clear_status(replies: &[u32], log: &mut [u32]) -> QspiRan
     ensures ran { result ≡ numbers.ran (answered_of (called call.clear_status (length log.old / 2) replies.now)) }
     ensures logged { log.new ≡ logged_of (called call.clear_status (length log.old / 2) replies.now) log.old }
 {
@@ -491,7 +503,7 @@ pub fn qspi_clear_status(replies: &[u32], log: &mut [u32]) -> QspiRan
     command(op, replies, log)
 }
 
-pub fn qspi_write_status(sr: u8, replies: &[u32], log: &mut [u32]) -> QspiRan
+pub extern "C" fn qspi_write_status(sr: u8, replies: &[u32], log: &mut [u32]) -> QspiRan
     ensures ran { result ≡ numbers.ran (answered_of (called (call.write_status sr) (length log.old / 2) replies.now)) }
     ensures logged { log.new ≡ logged_of (called (call.write_status sr) (length log.old / 2) replies.now) log.old }
 {
@@ -499,7 +511,7 @@ pub fn qspi_write_status(sr: u8, replies: &[u32], log: &mut [u32]) -> QspiRan
     command(op, replies, log)
 }
 
-pub fn qspi_write_status_and_config_register(
+pub extern "C" fn qspi_write_status_and_config_register(
     sr: u8,
     cr: u8,
     replies: &[u32],
@@ -512,7 +524,7 @@ pub fn qspi_write_status_and_config_register(
     command(op, replies, log)
 }
 
-pub fn qspi_erase_sector(addr: u32, replies: &[u32], log: &mut [u32]) -> QspiRan
+pub extern "C" fn qspi_erase_sector(addr: u32, replies: &[u32], log: &mut [u32]) -> QspiRan
     ensures ran { result ≡ numbers.ran (answered_of (called (call.erase_sector addr) (length log.old / 2) replies.now)) }
     ensures logged { log.new ≡ logged_of (called (call.erase_sector addr) (length log.old / 2) replies.now) log.old }
 {
@@ -520,7 +532,11 @@ pub fn qspi_erase_sector(addr: u32, replies: &[u32], log: &mut [u32]) -> QspiRan
     command(op, replies, log)
 }
 
-pub fn qspi_erase_sectors(list: &[u32], replies: &[u32], log: &mut [u32]) -> QspiSectorsRan
+pub extern "C" fn qspi_erase_sectors(
+    list: &[u32],
+    replies: &[u32],
+    log: &mut [u32],
+) -> QspiSectorsRan
     ensures ran { result ≡ numbers.sectors (answered_of (called (call.erase_sectors list.now) (length log.old / 2) replies.now)) }
     ensures logged { log.new ≡ logged_of (called (call.erase_sectors list.now) (length log.old / 2) replies.now) log.old }
     ensures singles { Accepted list.now → SingleNumbers list.now (length log.old / 2) replies.now log.old result log.new }
@@ -529,7 +545,7 @@ pub fn qspi_erase_sectors(list: &[u32], replies: &[u32], log: &mut [u32]) -> Qsp
     QspiSectorsRan::from(power_cut::erase_sectors(list, replies, log))
 }
 
-pub fn qspi_program(addr: u32, data: &[u8], replies: &[u32], log: &mut [u32]) -> QspiRan
+pub extern "C" fn qspi_program(addr: u32, data: &[u8], replies: &[u32], log: &mut [u32]) -> QspiRan
     ensures ran { result ≡ numbers.ran (answered_of (called (call.program addr «data».now) (length log.old / 2) replies.now)) }
     ensures logged { log.new ≡ logged_of (called (call.program addr «data».now) (length log.old / 2) replies.now) log.old }
 {
@@ -537,7 +553,7 @@ pub fn qspi_program(addr: u32, data: &[u8], replies: &[u32], log: &mut [u32]) ->
     QspiRan::from(qspi_operation::run(op, data, &mut [], log, replies))
 }
 
-pub fn qspi_read_page_read(
+pub extern "C" fn qspi_read_page_read(
     addr: u32,
     buffer: &mut [u8],
     replies: &[u32],
@@ -551,7 +567,7 @@ pub fn qspi_read_page_read(
     read(op, buffer, replies, log)
 }
 
-pub fn qspi_read_fast_read(
+pub extern "C" fn qspi_read_fast_read(
     addr: u32,
     dummy_byte: bool,
     buffer: &mut [u8],
@@ -566,7 +582,7 @@ pub fn qspi_read_fast_read(
     read(op, buffer, replies, log)
 }
 
-pub fn qspi_read_status_register_1(replies: &[u32], log: &mut [u32]) -> QspiValueRan
+pub extern "C" fn qspi_read_status_register_1(replies: &[u32], log: &mut [u32]) -> QspiValueRan
     ensures ran { result ≡ numbers.valued (answered_of (called call.read_status (length log.old / 2) replies.now)) }
     ensures logged { log.new ≡ logged_of (called call.read_status (length log.old / 2) replies.now) log.old }
 {
@@ -574,7 +590,7 @@ pub fn qspi_read_status_register_1(replies: &[u32], log: &mut [u32]) -> QspiValu
     valued(op, replies, log)
 }
 
-pub fn qspi_read_configuration_register(replies: &[u32], log: &mut [u32]) -> QspiValueRan
+pub extern "C" fn qspi_read_configuration_register(replies: &[u32], log: &mut [u32]) -> QspiValueRan
     ensures ran { result ≡ numbers.valued (answered_of (called call.read_config (length log.old / 2) replies.now)) }
     ensures logged { log.new ≡ logged_of (called call.read_config (length log.old / 2) replies.now) log.old }
 {
@@ -582,7 +598,7 @@ pub fn qspi_read_configuration_register(replies: &[u32], log: &mut [u32]) -> Qsp
     valued(op, replies, log)
 }
 
-pub fn qspi_read_rdid_base(replies: &[u32], log: &mut [u32]) -> QspiIdRan
+pub extern "C" fn qspi_read_rdid_base(replies: &[u32], log: &mut [u32]) -> QspiIdRan
     ensures ran { result ≡ numbers.identified (answered_of (called call.read_id (length log.old / 2) replies.now)) }
     ensures logged { log.new ≡ logged_of (called call.read_id (length log.old / 2) replies.now) log.old }
 {
@@ -591,7 +607,7 @@ pub fn qspi_read_rdid_base(replies: &[u32], log: &mut [u32]) -> QspiIdRan
     id_out(s, id_of(s))
 }
 
-pub fn qspi_read_rdid_extended(replies: &[u32], log: &mut [u32]) -> QspiLongIdRan
+pub extern "C" fn qspi_read_rdid_extended(replies: &[u32], log: &mut [u32]) -> QspiLongIdRan
     ensures ran { result ≡ numbers.identified_at_length (answered_of (called call.read_long_id (length log.old / 2) replies.now)) }
     ensures logged { log.new ≡ logged_of (called call.read_long_id (length log.old / 2) replies.now) log.old }
 {
@@ -600,7 +616,12 @@ pub fn qspi_read_rdid_extended(replies: &[u32], log: &mut [u32]) -> QspiLongIdRa
     long_id_out(s, long_id_of(s))
 }
 
-pub fn qspi_write_pages(addr: u32, data: &[u8], replies: &[u32], log: &mut [u32]) -> QspiPagesRan
+pub extern "C" fn qspi_write_pages(
+    addr: u32,
+    data: &[u8],
+    replies: &[u32],
+    log: &mut [u32],
+) -> QspiPagesRan
     ensures ran { result ≡ numbers.pages (answered_of (called (call.write_pages addr «data».now) (length log.old / 2) replies.now)) }
     ensures logged { log.new ≡ logged_of (called (call.write_pages addr «data».now) (length log.old / 2) replies.now) log.old }
     ensures cut { SavedNumbers addr «data».now result log.new }

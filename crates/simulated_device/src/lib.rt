@@ -180,7 +180,8 @@ pub fn read(d: Device, offset: u8, sent: &[u8], received: &mut [u32], array: &[u
 
 // ---- writes
 
-// What this device can not do: the access is not made, and the device stands as it did before it.
+// What this device can not do: then the access is not made. A pause may have passed, or a word gone out, before
+// that was seen.
 #[derive(Clone, Copy)]
 pub struct Refused {
     pub device: Device,
