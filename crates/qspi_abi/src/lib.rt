@@ -295,6 +295,7 @@ impl From<Result<ClockConfig, ClockCalculationError>> for QspiClockConfig {
     }
 }
 
+#[unsafe(no_mangle)]
 pub extern "C" fn qspi_calculate(
     src_sel: u8,
     io_ref_clk: u32,
@@ -323,6 +324,7 @@ pub extern "C" fn qspi_calculate(
     ))
 }
 
+#[unsafe(no_mangle)]
 pub extern "C" fn qspi_calculate_with_loopback(
     src_sel: u8,
     io_ref_clk: u32,
@@ -365,6 +367,7 @@ fn preset(micron: bool, operating_mode: InstructionCode, two_devices: bool) -> Q
     }
 }
 
+#[unsafe(no_mangle)]
 pub extern "C" fn qspi_linear_mode_config(
     micron: bool,
     operating_mode: u8,
@@ -395,6 +398,7 @@ fn initialize(
     valued(op, replies, log)
 }
 
+#[unsafe(no_mangle)]
 pub extern "C" fn qspi_initialize(
     src_sel: u8,
     ref_clk_div: u8,
@@ -419,6 +423,7 @@ pub extern "C" fn qspi_initialize(
     }
 }
 
+#[unsafe(no_mangle)]
 pub extern "C" fn qspi_new(
     set_quad_bit_if_necessary: bool,
     set_latency: bool,
@@ -439,6 +444,7 @@ pub extern "C" fn qspi_new(
     command(op, replies, log)
 }
 
+#[unsafe(no_mangle)]
 pub extern "C" fn qspi_enable_linear_addressing(
     config: u32,
     replies: &[u32],
@@ -451,6 +457,7 @@ pub extern "C" fn qspi_enable_linear_addressing(
     command(op, replies, log)
 }
 
+#[unsafe(no_mangle)]
 pub extern "C" fn qspi_enable_io_mode(dual_flash: bool, replies: &[u32], log: &mut [u32]) -> QspiRan
     ensures ran { result ≡ numbers.ran (answered_of (called (call.enable_io_mode dual_flash) (length log.old / 2) replies.now)) }
     ensures logged { log.new ≡ logged_of (called (call.enable_io_mode dual_flash) (length log.old / 2) replies.now) log.old }
@@ -459,6 +466,7 @@ pub extern "C" fn qspi_enable_io_mode(dual_flash: bool, replies: &[u32], log: &m
     command(op, replies, log)
 }
 
+#[unsafe(no_mangle)]
 pub extern "C" fn qspi_disable(replies: &[u32], log: &mut [u32]) -> QspiRan
     ensures ran { result ≡ numbers.ran (answered_of (called call.disable (length log.old / 2) replies.now)) }
     ensures logged { log.new ≡ logged_of (called call.disable (length log.old / 2) replies.now) log.old }
@@ -467,6 +475,7 @@ pub extern "C" fn qspi_disable(replies: &[u32], log: &mut [u32]) -> QspiRan
     command(op, replies, log)
 }
 
+#[unsafe(no_mangle)]
 pub extern "C" fn qspi_set_write_protection(
     protection: u8,
     replies: &[u32],
@@ -479,6 +488,7 @@ pub extern "C" fn qspi_set_write_protection(
     command(op, replies, log)
 }
 
+#[unsafe(no_mangle)]
 pub extern "C" fn qspi_write_enable(replies: &[u32], log: &mut [u32]) -> QspiRan
     ensures ran { result ≡ numbers.ran (answered_of (called call.write_enable (length log.old / 2) replies.now)) }
     ensures logged { log.new ≡ logged_of (called call.write_enable (length log.old / 2) replies.now) log.old }
@@ -487,6 +497,7 @@ pub extern "C" fn qspi_write_enable(replies: &[u32], log: &mut [u32]) -> QspiRan
     command(op, replies, log)
 }
 
+#[unsafe(no_mangle)]
 pub extern "C" fn qspi_write_disable(replies: &[u32], log: &mut [u32]) -> QspiRan
     ensures ran { result ≡ numbers.ran (answered_of (called call.write_disable (length log.old / 2) replies.now)) }
     ensures logged { log.new ≡ logged_of (called call.write_disable (length log.old / 2) replies.now) log.old }
@@ -495,6 +506,7 @@ pub extern "C" fn qspi_write_disable(replies: &[u32], log: &mut [u32]) -> QspiRa
     command(op, replies, log)
 }
 
+#[unsafe(no_mangle)]
 pub extern "C" fn qspi_clear_status(replies: &[u32], log: &mut [u32]) -> QspiRan
     ensures ran { result ≡ numbers.ran (answered_of (called call.clear_status (length log.old / 2) replies.now)) }
     ensures logged { log.new ≡ logged_of (called call.clear_status (length log.old / 2) replies.now) log.old }
@@ -503,6 +515,7 @@ pub extern "C" fn qspi_clear_status(replies: &[u32], log: &mut [u32]) -> QspiRan
     command(op, replies, log)
 }
 
+#[unsafe(no_mangle)]
 pub extern "C" fn qspi_write_status(sr: u8, replies: &[u32], log: &mut [u32]) -> QspiRan
     ensures ran { result ≡ numbers.ran (answered_of (called (call.write_status sr) (length log.old / 2) replies.now)) }
     ensures logged { log.new ≡ logged_of (called (call.write_status sr) (length log.old / 2) replies.now) log.old }
@@ -511,6 +524,7 @@ pub extern "C" fn qspi_write_status(sr: u8, replies: &[u32], log: &mut [u32]) ->
     command(op, replies, log)
 }
 
+#[unsafe(no_mangle)]
 pub extern "C" fn qspi_write_status_and_config_register(
     sr: u8,
     cr: u8,
@@ -524,6 +538,7 @@ pub extern "C" fn qspi_write_status_and_config_register(
     command(op, replies, log)
 }
 
+#[unsafe(no_mangle)]
 pub extern "C" fn qspi_erase_sector(addr: u32, replies: &[u32], log: &mut [u32]) -> QspiRan
     ensures ran { result ≡ numbers.ran (answered_of (called (call.erase_sector addr) (length log.old / 2) replies.now)) }
     ensures logged { log.new ≡ logged_of (called (call.erase_sector addr) (length log.old / 2) replies.now) log.old }
@@ -532,6 +547,7 @@ pub extern "C" fn qspi_erase_sector(addr: u32, replies: &[u32], log: &mut [u32])
     command(op, replies, log)
 }
 
+#[unsafe(no_mangle)]
 pub extern "C" fn qspi_erase_sectors(
     list: &[u32],
     replies: &[u32],
@@ -545,6 +561,7 @@ pub extern "C" fn qspi_erase_sectors(
     QspiSectorsRan::from(power_cut::erase_sectors(list, replies, log))
 }
 
+#[unsafe(no_mangle)]
 pub extern "C" fn qspi_program(addr: u32, data: &[u8], replies: &[u32], log: &mut [u32]) -> QspiRan
     ensures ran { result ≡ numbers.ran (answered_of (called (call.program addr «data».now) (length log.old / 2) replies.now)) }
     ensures logged { log.new ≡ logged_of (called (call.program addr «data».now) (length log.old / 2) replies.now) log.old }
@@ -553,6 +570,7 @@ pub extern "C" fn qspi_program(addr: u32, data: &[u8], replies: &[u32], log: &mu
     QspiRan::from(qspi_operation::run(op, data, &mut [], log, replies))
 }
 
+#[unsafe(no_mangle)]
 pub extern "C" fn qspi_read_page_read(
     addr: u32,
     buffer: &mut [u8],
@@ -567,6 +585,7 @@ pub extern "C" fn qspi_read_page_read(
     read(op, buffer, replies, log)
 }
 
+#[unsafe(no_mangle)]
 pub extern "C" fn qspi_read_fast_read(
     addr: u32,
     dummy_byte: bool,
@@ -582,6 +601,7 @@ pub extern "C" fn qspi_read_fast_read(
     read(op, buffer, replies, log)
 }
 
+#[unsafe(no_mangle)]
 pub extern "C" fn qspi_read_status_register_1(replies: &[u32], log: &mut [u32]) -> QspiValueRan
     ensures ran { result ≡ numbers.valued (answered_of (called call.read_status (length log.old / 2) replies.now)) }
     ensures logged { log.new ≡ logged_of (called call.read_status (length log.old / 2) replies.now) log.old }
@@ -590,6 +610,7 @@ pub extern "C" fn qspi_read_status_register_1(replies: &[u32], log: &mut [u32]) 
     valued(op, replies, log)
 }
 
+#[unsafe(no_mangle)]
 pub extern "C" fn qspi_read_configuration_register(replies: &[u32], log: &mut [u32]) -> QspiValueRan
     ensures ran { result ≡ numbers.valued (answered_of (called call.read_config (length log.old / 2) replies.now)) }
     ensures logged { log.new ≡ logged_of (called call.read_config (length log.old / 2) replies.now) log.old }
@@ -598,6 +619,7 @@ pub extern "C" fn qspi_read_configuration_register(replies: &[u32], log: &mut [u
     valued(op, replies, log)
 }
 
+#[unsafe(no_mangle)]
 pub extern "C" fn qspi_read_rdid_base(replies: &[u32], log: &mut [u32]) -> QspiIdRan
     ensures ran { result ≡ numbers.identified (answered_of (called call.read_id (length log.old / 2) replies.now)) }
     ensures logged { log.new ≡ logged_of (called call.read_id (length log.old / 2) replies.now) log.old }
@@ -607,6 +629,7 @@ pub extern "C" fn qspi_read_rdid_base(replies: &[u32], log: &mut [u32]) -> QspiI
     id_out(s, id_of(s))
 }
 
+#[unsafe(no_mangle)]
 pub extern "C" fn qspi_read_rdid_extended(replies: &[u32], log: &mut [u32]) -> QspiLongIdRan
     ensures ran { result ≡ numbers.identified_at_length (answered_of (called call.read_long_id (length log.old / 2) replies.now)) }
     ensures logged { log.new ≡ logged_of (called call.read_long_id (length log.old / 2) replies.now) log.old }
@@ -616,6 +639,7 @@ pub extern "C" fn qspi_read_rdid_extended(replies: &[u32], log: &mut [u32]) -> Q
     long_id_out(s, long_id_of(s))
 }
 
+#[unsafe(no_mangle)]
 pub extern "C" fn qspi_write_pages(
     addr: u32,
     data: &[u8],
