@@ -34,15 +34,15 @@ pub fn point(rt: &impl Print, k: usize, watch: Watch) -> io::Result<()> {
     in_doubt(rt, watch.doubt)
 }
 
-fn in_doubt(rt: &impl Print, doubt: Option<Doubt>) -> io::Result<()> {
-    let Some(doubt) = doubt else {
-        return print!(rt; " doubt 0");
+fn in_doubt(rt: &impl Print, doubt: Doubt) -> io::Result<()> {
+    let Some(first) = doubt.first else {
+        return print!(rt; " doubt {}", doubt.chunks);
     };
     print!(rt;
         " doubt {} at {:06X} length {}",
         doubt.chunks,
-        doubt.address % ADDRESSES,
-        doubt.length
+        first.address % ADDRESSES,
+        first.length
     )
 }
 

@@ -1,5 +1,4 @@
 -- What a transfer is, told by its number of bytes and its first four, is what its bytes say. Assumes nothing.
-use Rattle.std.specs.Prelude.{Some}
 use Rattle.std.proofs.Common.{◌≡◌, ℕ, ◌+◌, ◌-◌, ◌%◌, ◌^◌, ◌<◌, Bool, true, false, cond, not, ◌&&◌, eqb, List, [], ◌∷◌, ◌++◌, length, get_or, take, sym, refl, ap, ◌∙◌, arith, length-append, lt-ltb, ne_eqb, eqb-true}
 use Rattle.zynq7000.specs.Bits.{is_set}
 use Rattle.zedboard_bsp.specs.Words.{word_of, top_byte}
@@ -74,7 +73,7 @@ address_read : (a b c d : ℕ) → a < 256 → b < 256 → c < 256 → d < 256 �
 address_read a b c d ha hb hc hd = ap (λ (l : List ℕ). address_of (get_or l 1 0) (get_or l 2 0) (get_or l 3 0)) (read_back a b c d ha hb hc hd)
 
 -- one more in doubt
-joined_shown : (q : List Chunk) (c : Chunk) → Some (joined (doubt_of q) c.address (length c.bytes)) ≡ doubt_of (q ++ c ∷ [])
+joined_shown : (q : List Chunk) (c : Chunk) → joined (doubt_of q) c.address (length c.bytes) ≡ doubt_of (q ++ c ∷ [])
 unfolding total
 joined_shown [] c =
     let b : (0 + length c.bytes) % 2 ^ 32 ≡ total (c ∷ []) % 2 ^ 32 = omega arith in
@@ -84,7 +83,7 @@ joined_shown (d ∷ q) c =
     let b : (total (d ∷ q) % 2 ^ 32 + length c.bytes) % 2 ^ 32 ≡ total (d ∷ (q ++ c ∷ [])) % 2 ^ 32 = omega (arith, total_snoc q c) in
     simp (n, b)
 
-chosen : (t : Bool) (c : Chunk) (q : List Chunk) → cond t (Some (joined (doubt_of q) c.address (length c.bytes))) (doubt_of q) ≡ doubt_of (cond t (q ++ c ∷ []) q)
+chosen : (t : Bool) (c : Chunk) (q : List Chunk) → cond t (joined (doubt_of q) c.address (length c.bytes)) (doubt_of q) ≡ doubt_of (cond t (q ++ c ∷ []) q)
 chosen true c q = joined_shown q c
 chosen false c q = refl
 

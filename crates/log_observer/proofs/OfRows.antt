@@ -15,7 +15,6 @@ use Rattle.power_cut.proofs.Fits.{AllSound, chunks_sound}
 use Rattle.power_cut.proofs.Lands.{chunks_total}
 use Rattle.power_cut.proofs.StatementLaws.{one_over_all}
 use Rattle.power_cut.proofs.Rows.{all_bytes, power_cut}
-use Rattle.log_observer.specs.Watching.{chunks_in}
 use Rattle.log_observer.specs.Shown.{doubt_of, shown}
 use Rattle.log_observer.proofs.OfRuns.{Exact}
 
@@ -82,9 +81,9 @@ module _ {row : List Save} (r : Row row) (k : ℕ) (i : k ≤ length (row_log ro
       record { finished = omega (arith, m, n, few); bytes = omega (arith, m, few) }
 
   -- THEOREM. "at most one chunk in doubt over all of them" (document 02, U2).
-  pub one_shown : chunks_in (shown seen).doubt ≤ 1
+  pub one_shown : (shown seen).doubt.chunks ≤ 1
   one_shown = go seen.doubt (one_over_all call_by_call)
     where
-      go : (q : List Chunk) → length q ≤ 1 → chunks_in (doubt_of q) ≤ 1
+      go : (q : List Chunk) → length q ≤ 1 → (doubt_of q).chunks ≤ 1
       go [] h = omega arith
       go (c ∷ q) h = omega (arith, h)

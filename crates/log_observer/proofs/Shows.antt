@@ -15,7 +15,7 @@ use Rattle.power_cut.specs.Observer as observer
 use Rattle.power_cut.specs.Statement.{total}
 use Rattle.log_observer.specs.declared.Transfer as declared
 use Rattle.log_observer.specs.declared.Watch.{Watch}
-use Rattle.log_observer.specs.Watching.{chunks_in, bytes_in, take_reply, wrote, has_read, watched, watch_from, watch_of}
+use Rattle.log_observer.specs.Watching.{take_reply, wrote, has_read, watched, watch_from, watch_of}
 use Rattle.log_observer.specs.Watching as watching
 use Rattle.log_observer.specs.Shown.{doubt_of, transfer_of, shown}
 use Rattle.power_cut.proofs.Driver.{total_append}
@@ -80,11 +80,11 @@ register_at_lem o = by-config (eqb o 0x00) refl
 
 -- ---- a transfer closes
 
-chunks_shown : (k q : List Chunk) → (length k % 2 ^ 32 + chunks_in (doubt_of q)) % 2 ^ 32 ≡ length (k ++ q) % 2 ^ 32
+chunks_shown : (k q : List Chunk) → (length k % 2 ^ 32 + (doubt_of q).chunks) % 2 ^ 32 ≡ length (k ++ q) % 2 ^ 32
 chunks_shown k [] = omega (arith, length-append k [])
 chunks_shown k (c ∷ q) = omega (arith, length-append k (c ∷ q))
 
-bytes_shown : (k q : List Chunk) → (total k % 2 ^ 32 + bytes_in (doubt_of q)) % 2 ^ 32 ≡ total (k ++ q) % 2 ^ 32
+bytes_shown : (k q : List Chunk) → (total k % 2 ^ 32 + (doubt_of q).bytes) % 2 ^ 32 ≡ total (k ++ q) % 2 ^ 32
 unfolding total
 bytes_shown k [] = omega (arith, total_append k [])
 bytes_shown k (c ∷ q) = omega (arith, total_append k (c ∷ q))

@@ -8,11 +8,12 @@ use Rattle.power_cut.specs.Statement.{total}
 use Rattle.log_observer.specs.declared.Doubt.{Doubt}
 use Rattle.log_observer.specs.declared.Transfer.{Transfer}
 use Rattle.log_observer.specs.declared.Watch.{Watch}
+use Rattle.log_observer.specs.Watching.{no_doubt}
 
 -- chunks by their number and their bytes, both modulo 2^32, the first of them by its address and its length
-abbrev pub doubt_of : List Chunk → Option Doubt
-doubt_of [] = None
-doubt_of (c ∷ q) = Some (record { address = c.address; length = length c.bytes; chunks = length (c ∷ q) % 2 ^ 32; bytes = total (c ∷ q) % 2 ^ 32 })
+abbrev pub doubt_of : List Chunk → Doubt
+doubt_of [] = no_doubt
+doubt_of (c ∷ q) = record { first = Some (record { address = c.address; length = length c.bytes }); chunks = length (c ∷ q) % 2 ^ 32; bytes = total (c ∷ q) % 2 ^ 32 }
 
 -- a transfer's bytes by their number and the first four of them, the first lowest
 abbrev pub opened_of : List ℕ → ℕ → Transfer

@@ -8,10 +8,14 @@ use Rattle.zynq7000.specs.declared.qspi.Access.TheVariants as access
 use Rattle.zedboard_bsp.specs.Words.{top_byte}
 use Rattle.access_log.specs.Log.{Entry, entry_at}
 use Rattle.log_observer.specs.declared.Doubt.{Doubt}
+use Rattle.log_observer.specs.declared.Extent.{Extent}
 use Rattle.log_observer.specs.declared.Transfer.{Transfer}
 use Rattle.log_observer.specs.declared.Watch.{Watch}
 
--- ---- nothing sent, nothing seen
+-- ---- no chunk, nothing sent, nothing seen
+
+abbrev pub no_doubt : Doubt
+no_doubt = record { first = None; chunks = 0; bytes = 0 }
 
 -- before the first RX word is read it shows busy
 abbrev pub just_open : Transfer
@@ -19,7 +23,7 @@ just_open = record { sent = 0; head = 0; reply = 0x0100_0000 }
 
 -- "At the start of a run bits 10, 14 and 15 are set": chip select is high
 abbrev pub fresh : Watch
-fresh = record { transfer = None; up = true; doubt = None; finished = 0; bytes = 0 }
+fresh = record { transfer = None; up = true; doubt = no_doubt; finished = 0; bytes = 0 }
 
 -- ---- bytes sent: "Words are written low byte first" ("One transfer, access by access")
 
@@ -79,34 +83,25 @@ address_in head = head / 0x100 % 0x100 * 0x1_0000 + head / 0x1_0000 % 0x100 * 0x
 
 -- ---- chunks in doubt
 
--- their number and their bytes
-abbrev pub chunks_in : Option Doubt → ℕ
-chunks_in None = 0
-chunks_in (Some d) = d.chunks
-
-abbrev pub bytes_in : Option Doubt → ℕ
-bytes_in None = 0
-bytes_in (Some d) = d.bytes
-
 -- the first of them by its place
-abbrev pub placed : Option Doubt → ℕ → ℕ → Doubt
-placed None a n = record { address = a; length = n; chunks = 0; bytes = 0 }
-placed (Some d) a n = d
+abbrev pub placed : Option Extent → Doubt → ℕ → ℕ → Doubt
+placed (Some e) d a n = d
+placed None d a n = record { first = Some (record { address = a; length = n }); chunks = d.chunks; bytes = d.bytes }
 
 abbrev pub with_one : Doubt → ℕ → Doubt
-with_one d n = record { address = d.address; length = d.length; chunks = (d.chunks + 1) % 2 ^ 32; bytes = (d.bytes + n) % 2 ^ 32 }
+with_one d n = record { first = d.first; chunks = (d.chunks + 1) % 2 ^ 32; bytes = (d.bytes + n) % 2 ^ 32 }
 
 -- one more, of so many bytes at an address
-abbrev pub joined : Option Doubt → ℕ → ℕ → Doubt
-joined d a n = with_one (placed d a n) n
+abbrev pub joined : Doubt → ℕ → ℕ → Doubt
+joined d a n = placed d.first (with_one d n) a n
 
 -- the chunk of a page program command; other commands leave those there were
-abbrev pub commanded : Option Transfer → Option Doubt → Option Doubt
+abbrev pub commanded : Option Transfer → Doubt → Doubt
 commanded None d = d
-commanded (Some t) d = cond (is_program t) (Some (joined d (address_in t.head) (t.sent - 4))) d
+commanded (Some t) d = cond (is_program t) (joined d (address_in t.head) (t.sent - 4)) d
 
 -- "it is in doubt from the rising chip select of its page program command"
-abbrev pub raised : Bool → Bool → Option Transfer → Option Doubt → Option Doubt
+abbrev pub raised : Bool → Bool → Option Transfer → Doubt → Doubt
 raised was is t d = cond was d (cond is (commanded t d) d)
 
 -- ---- what an access adds
@@ -119,9 +114,9 @@ abbrev pub finish : Watch → Watch
 finish w = record {
   transfer = None;
   up = w.up;
-  doubt = None;
-  finished = (w.finished + chunks_in w.doubt) % 2 ^ 32;
-  bytes = (w.bytes + bytes_in w.doubt) % 2 ^ 32;
+  doubt = no_doubt;
+  finished = (w.finished + w.doubt.chunks) % 2 ^ 32;
+  bytes = (w.bytes + w.doubt.bytes) % 2 ^ 32;
 }
 
 abbrev pub closed : Watch → Watch

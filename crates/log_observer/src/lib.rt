@@ -4,20 +4,26 @@
 #![tactic(auto)]
 
 ghost use Rattle.std.specs.Prelude.{◌≡◌, ◌-◌};
-ghost use Rattle.log_observer.specs.Watching.{just_open, fresh, head_with, push, send_one, send_two, send_three, send_four, take_reply, is_program, is_status_read, is_clean, address_in, chunks_in, bytes_in, joined, commanded, raised, with_transfer, finish, closed, enabled, configured, wrote, has_read, watched, watch_of};
+ghost use Rattle.log_observer.specs.Watching.{no_doubt, just_open, fresh, head_with, push, send_one, send_two, send_three, send_four, take_reply, is_program, is_status_read, is_clean, address_in, joined, commanded, raised, with_transfer, finish, closed, enabled, configured, wrote, has_read, watched, watch_of};
 
 use access_log::entry_at;
 use zedboard_bsp::qspi_spansion::{RegisterId, StatusRegister1, words};
 use zynq7000::qspi::{Access, Config};
 use zynq7000::{bits, qspi};
 
-// The chunks in doubt: the first of them by its place in the flash; how many they are, and their bytes
-// (both modulo 2^32). Of a run of `write_pages` there is never a second one, nor of a row of them while
-// the flash reports no error.
+// Where a chunk lies in the flash.
 #[derive(Clone, Copy)]
-pub struct Doubt {
+pub struct Extent {
     pub address: u32,
     pub length: u32,
+}
+
+// The chunks in doubt: the first of them by its place in the flash, if any; how many they are, and their
+// bytes (both modulo 2^32), which `see` adds up whether or not a first stands beside them. Of a run of
+// `write_pages` there is never a second one, nor of a row of them while the flash reports no error.
+#[derive(Clone, Copy)]
+pub struct Doubt {
+    pub first: Option<Extent>,
     pub chunks: u32,
     pub bytes: u32,
 }
@@ -31,13 +37,13 @@ pub struct Transfer {
     pub reply: u32,
 }
 
-// What is seen so far: the transfer at hand, if any; whether chip select is high; the chunks in doubt, if
-// any; how many chunks are finished, and their bytes (both modulo 2^32).
+// What is seen so far: the transfer at hand, if any; whether chip select is high; the chunks in doubt; how
+// many chunks are finished, and their bytes (both modulo 2^32).
 #[derive(Clone, Copy)]
 pub struct Watch {
     pub transfer: Option<Transfer>,
     pub up: bool,
-    pub doubt: Option<Doubt>,
+    pub doubt: Doubt,
     pub finished: u32,
     pub bytes: u32,
 }
@@ -45,6 +51,16 @@ pub struct Watch {
 // Before the first RX word of a transfer is read: a status that shows busy, so that none counts as
 // clean that nobody read.
 const UNREAD: u32 = 0x0100_0000;
+
+fn no_doubt() -> Doubt
+    ensures doubt { result ≡ no_doubt }
+{
+    Doubt {
+        first: None,
+        chunks: 0,
+        bytes: 0,
+    }
+}
 
 fn just_open() -> Transfer
     ensures transfer { result ≡ just_open }
@@ -152,50 +168,30 @@ fn data_length(sent: u32) -> u32
     sent.saturating_sub(4)
 }
 
-// How many chunks are in doubt.
-fn chunks_in(doubt: Option<Doubt>) -> u32
-    ensures chunks { result ≡ chunks_in doubt }
-{
-    doubt.map_or(0, |doubt| doubt.chunks)
-}
-
-// Their bytes.
-fn bytes_in(doubt: Option<Doubt>) -> u32
-    ensures bytes { result ≡ bytes_in doubt }
-{
-    doubt.map_or(0, |doubt| doubt.bytes)
-}
-
 // One more in doubt.
-fn joined(doubt: Option<Doubt>, address: u32, length: u32) -> Doubt
+fn joined(doubt: Doubt, address: u32, length: u32) -> Doubt
     ensures doubt { result ≡ joined doubt address length }
 {
-    let before = doubt.unwrap_or(Doubt {
-        address,
-        length,
-        chunks: 0,
-        bytes: 0,
-    });
     Doubt {
-        chunks: before.chunks.wrapping_add(1),
-        bytes: before.bytes.wrapping_add(length),
-        ..before
+        first: doubt.first.or(Some(Extent { address, length })),
+        chunks: doubt.chunks.wrapping_add(1),
+        bytes: doubt.bytes.wrapping_add(length),
     }
 }
 
 // The chunk of a page program is in doubt too; other commands leave those that are.
-fn commanded(t: Option<Transfer>, doubt: Option<Doubt>) -> Option<Doubt>
+fn commanded(t: Option<Transfer>, doubt: Doubt) -> Doubt
     ensures doubt { result ≡ commanded t doubt }
 {
     match t {
-        Some(t) if is_program(t) => Some(joined(doubt, address_in(t.head), data_length(t.sent))),
+        Some(t) if is_program(t) => joined(doubt, address_in(t.head), data_length(t.sent)),
         _ => doubt,
     }
 }
 
 // The chunks in doubt, where chip select was and is high or low: a page program is in doubt once it
 // rises.
-fn raised(was: bool, is: bool, t: Option<Transfer>, doubt: Option<Doubt>) -> Option<Doubt>
+fn raised(was: bool, is: bool, t: Option<Transfer>, doubt: Doubt) -> Doubt
     ensures doubt { result ≡ raised was is t doubt }
 {
     if !was && is {
@@ -217,9 +213,9 @@ fn finish(w: Watch) -> Watch
 {
     Watch {
         transfer: None,
-        doubt: None,
-        finished: w.finished.wrapping_add(chunks_in(w.doubt)),
-        bytes: w.bytes.wrapping_add(bytes_in(w.doubt)),
+        doubt: no_doubt(),
+        finished: w.finished.wrapping_add(w.doubt.chunks),
+        bytes: w.bytes.wrapping_add(w.doubt.bytes),
         ..w
     }
 }
@@ -299,7 +295,7 @@ fn start() -> Watch
     Watch {
         transfer: None,
         up: true,
-        doubt: None,
+        doubt: no_doubt(),
         finished: 0,
         bytes: 0,
     }

@@ -67,7 +67,7 @@ impl CallReport<'_> {
     }
 
     fn flash(&self, watch: Watch) -> Flash<'_> {
-        let doubt = watch.doubt.map(|chunk| Span {
+        let doubt = watch.doubt.first.map(|chunk| Span {
             address: chunk.address,
             length: chunk.length,
         });
