@@ -8,7 +8,7 @@ ghost use Rattle.qspi_transfer.specs.Wire.{fresh_wire, pick_wire, wire_next};
 ghost use Rattle.qspi_transfer.specs.declared.Phase.TheVariants.{DrainStatus};
 ghost use Rattle.qspi_script.specs.Stages.{frame_of};
 ghost use Rattle.qspi_script.specs.declared.Status.TheVariants.{Going};
-ghost use Rattle.qspi_operation.specs.Step.{is_going, register_access, send_access, turned_on, moved_by, access_of, due_of, asked_answer, answered, same_lengths, going, stopped, counted, written, reply_of, step_of, log_of, buffer_of, counted_of, erases_list};
+ghost use Rattle.qspi_operation.specs.Step.{is_going, register_access, send_access, turned_on, access_of, due_of, asked_answer, answered, same_lengths, going, stopped, counted, written, reply_of, step_of, log_of, buffer_of, counted_of, erases_list};
 ghost use Rattle.qspi_operation.specs.Follows.{StepFollows, DueFollows, RunFollows};
 ghost use Rattle.qspi_operation.specs.Pass.{verdict_on, refused, stands_for, Onward};
 ghost use Rattle.qspi_operation.specs.Run.{run_of, Ran};
@@ -204,30 +204,6 @@ impl Op {
         };
         Stepped { op, answer: status }
     }
-
-    // After an access.
-    fn moved(self, passed: Passed) -> Stepped
-        ensures stepped { result ≡ moved_by passed.wire self passed.used passed.replies }
-    {
-        let Passed {
-            wire,
-            used,
-            replies,
-        } = passed;
-        match wire {
-            Some(wire) => Stepped {
-                op: Op {
-                    wire,
-                    used,
-                    replies,
-                    status: Status::Going,
-                    ..self
-                },
-                answer: Status::Going,
-            },
-            None => self.turned(used, replies),
-        }
-    }
 }
 
 // The access that is due, by the data lent, asked for without effect; none where the operation has ended.
@@ -332,7 +308,7 @@ fn pass(
 
 // One step of an operation, where the reply is the one at a place of the replies.
 pub fn step_at(
-    op: Op,
+    mut op: Op,
     data: &[u8],
     buffer: &mut [u8],
     log: &mut [u32],
@@ -350,9 +326,21 @@ pub fn step_at(
             answer: op.status,
         };
     }
-    match pass(&op, op.job.frame(op.place), data, buffer, log, replies, at) {
-        Ok(passed) => op.moved(passed),
-        Err(why) => op.refused(why),
+    let passed = match pass(&op, op.job.frame(op.place), data, buffer, log, replies, at) {
+        Ok(passed) => passed,
+        Err(why) => return op.refused(why),
+    };
+    match passed.wire {
+        Some(next) => {
+            op.wire = next;
+            op.used = passed.used;
+            op.replies = passed.replies;
+            Stepped {
+                op,
+                answer: Status::Going,
+            }
+        }
+        None => op.turned(passed.used, passed.replies),
     }
 }
 

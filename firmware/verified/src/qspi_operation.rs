@@ -180,28 +180,6 @@ impl Op {
         };
         Stepped { op, answer: status }
     }
-
-    // After an access.
-    fn moved(self, passed: Passed) -> Stepped {
-        let Passed {
-            wire,
-            used,
-            replies,
-        } = passed;
-        match wire {
-            Some(wire) => Stepped {
-                op: Op {
-                    wire,
-                    used,
-                    replies,
-                    status: Status::Going,
-                    ..self
-                },
-                answer: Status::Going,
-            },
-            None => self.turned(used, replies),
-        }
-    }
 }
 
 // The access that is due, by the data lent, asked for without effect; none where the operation has ended.
@@ -289,7 +267,7 @@ fn pass(
 
 // One step of an operation, where the reply is the one at a place of the replies.
 pub fn step_at(
-    op: Op,
+    mut op: Op,
     data: &[u8],
     buffer: &mut [u8],
     log: &mut [u32],
@@ -302,9 +280,21 @@ pub fn step_at(
             answer: op.status,
         };
     }
-    match pass(&op, op.job.frame(op.place), data, buffer, log, replies, at) {
-        Ok(passed) => op.moved(passed),
-        Err(why) => op.refused(why),
+    let passed = match pass(&op, op.job.frame(op.place), data, buffer, log, replies, at) {
+        Ok(passed) => passed,
+        Err(why) => return op.refused(why),
+    };
+    match passed.wire {
+        Some(next) => {
+            op.wire = next;
+            op.used = passed.used;
+            op.replies = passed.replies;
+            Stepped {
+                op,
+                answer: Status::Going,
+            }
+        }
+        None => op.turned(passed.used, passed.replies),
     }
 }
 
